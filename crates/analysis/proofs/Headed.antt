@@ -103,7 +103,8 @@ module _ {s : List ℕ} {h : Header} (d : Headed s h) where
     headed-ranked {first} {second} {order} old keys room o =
         let x : at ≡ boundaries_at s = a ∙ start_is in
         let y : n ≡ (counts_at s 0).boundaries = e ∙ count-is in
-        let k = subst (λ (i : ℕ). KeysOf s (boundaries_at s) boundary_size i first second) y (subst (λ (i : ℕ). KeysOf s i boundary_size n first second) x keys) in
+        let k = subst (λ (i : ℕ). KeysOf s (boundaries_at s) boundary_size i first second) y
+        (subst (λ (i : ℕ). KeysOf s i boundary_size n first second) x keys) in
         let z : order ≡ splice old 0 (sort (by_two first second) (up_from 0 (counts_at s 0).boundaries)) = o
         ∙ ap (λ (i : ℕ). splice old 0 (sort (by_two first second) (up_from 0 i))) y in
         rw z (ranks-of headed-checked first second k old (omega (arith, y))).each

@@ -188,7 +188,8 @@ module _ (j : Job) (ss : List Span) (e : length j.boundaries ≡ length ss) wher
   spans-perm =
       let a : map canonical ss ≡ map (λ k. canonical (get_or ss k no_span)) (up_from 0 (length j.boundaries))
       = ap (map canonical) (sym (map-places ss no_span))
-      ∙ (map-map canonical (λ k. get_or ss k no_span) (up_from 0 (length ss)) ∙ ap (λ (n : ℕ). map (λ k. canonical (get_or ss k no_span)) (up_from 0 n)) (sym e)) in
+      ∙ (map-map canonical (λ k. get_or ss k no_span) (up_from 0 (length ss))
+      ∙ ap (λ (n : ℕ). map (λ k. canonical (get_or ss k no_span)) (up_from 0 n)) (sym e)) in
       let b : map canonical (spans_of (listing_of j ss)) ≡ map (λ k. canonical (get_or ss k no_span)) (places_of j.boundaries)
       = ap (map canonical) spans-places ∙ (map-map canonical (λ k. canonical (get_or ss k no_span)) (places_of j.boundaries)
       ∙ map-ext (λ k. canonical (canonical (get_or ss k no_span))) (λ k. canonical (get_or ss k no_span)) (places_of j.boundaries)

@@ -60,15 +60,18 @@ module _ (s : List ℕ) where
       ∙ map_rows g c.boundaries (λ i. boundary_at s (boundaries_at s + i * boundary_size)))
       ∙ rows_at c.boundaries (λ i. g (boundary_at s (boundaries_at s + i * boundary_size))) k (f no_boundary) h)
 
-  pub ends_of_lem : (k : ℕ) → k < (counts_at s 0).boundaries → (get_or (decode s).boundaries k no_boundary).ends ≡ span_at s (boundaries_at s + k * boundary_size)
+  pub ends_of_lem : (k : ℕ) → k < (counts_at s 0).boundaries
+      → (get_or (decode s).boundaries k no_boundary).ends ≡ span_at s (boundaries_at s + k * boundary_size)
   unfolding boundary_with boundary_at
   ends_of_lem k h = field_of (λ (b : Boundary). b.ends) (λ (r : BoundaryRecord). r.ends) (λ r os ss. refl) k h
 
-  pub bits_of : (k : ℕ) → k < (counts_at s 0).boundaries → (get_or (decode s).boundaries k no_boundary).bits ≡ u64_at s (boundaries_at s + k * boundary_size + 16)
+  pub bits_of : (k : ℕ) → k < (counts_at s 0).boundaries
+      → (get_or (decode s).boundaries k no_boundary).bits ≡ u64_at s (boundaries_at s + k * boundary_size + 16)
   unfolding boundary_with boundary_at
   bits_of k h = field_of (λ (b : Boundary). b.bits) (λ (r : BoundaryRecord). r.bits) (λ r os ss. refl) k h
 
-  pub ramp-of : (k : ℕ) → k < (counts_at s 0).boundaries → (get_or (decode s).boundaries k no_boundary).ramp.end ≡ get_or s (boundaries_at s + k * boundary_size + 32) 0
+  pub ramp-of : (k : ℕ) → k < (counts_at s 0).boundaries
+      → (get_or (decode s).boundaries k no_boundary).ramp.end ≡ get_or s (boundaries_at s + k * boundary_size + 32) 0
   unfolding boundary_with boundary_at ramp_of ramp_at
   ramp-of k h = field_of (λ (b : Boundary). b.ramp.end) (λ (r : BoundaryRecord). r.ramp.end) (λ r os ss. refl) k h
 
@@ -185,7 +188,8 @@ module _ {distinct : Bool} {s : List ℕ} (c : Checked distinct s) {order : List
     }
 
     -- an array of the spans by rank holds the listing's spans
-    pub spans-ranked : (ends : List ℕ) → ((i : ℕ) → i < n → span_in ends i ≡ canonical (get_or ss (get_or order i 0) Rank.no_span)) → Rank.spans_of l ≡ spans_in ends n
+    pub spans-ranked : (ends : List ℕ) → ((i : ℕ) → i < n → span_in ends i ≡ canonical (get_or ss (get_or order i 0) Rank.no_span))
+        → Rank.spans_of l ≡ spans_in ends n
     unfolding spans_in canon_item
     spans-ranked ends t =
         by_rows (Rank.spans_of l) n (span_in ends) Rank.no_span (length-map l (λ (x : Item). x.span) ∙ listed-count)
@@ -220,7 +224,8 @@ pub list-ends-fit : {width height : ℕ} {t : List ℕ} → ListChecked width he
     → (ends : List ℕ) → SpansOf t 0 span_size order m ends → SpansFit width height ends m
 list-ends-fit {width} {height} {t} c order m below ends o = record {
   each = λ i h. rw (o.each i h, zero-add (get_or order i 0 * span_size))
-      (canonical-span-fits width height (span_at t (get_or order i 0 * span_size)) (c.on (get_or order i 0) (below i h)) (c.apart (get_or order i 0) (below i h)));
+      (canonical-span-fits width height (span_at t (get_or order i 0 * span_size)) (c.on (get_or order i 0) (below i h))
+      (c.apart (get_or order i 0) (below i h)));
 }
 
 -- the spans of a list in their own order
@@ -267,7 +272,8 @@ module _ {distinct : Bool} {s : List ℕ} (c : Checked distinct s) {order : List
 
   pub canonical-own : map canonical (own_ends (decode s)) ≡ map canonical (spans_in ends count)
   canonical-own =
-      sym (map-map canonical canonical (own_ends (decode s)) ∙ map-ext (λ x. canonical (canonical x)) canonical (own_ends (decode s)) (λ x m. canonical-again x))
+      sym (map-map canonical canonical (own_ends (decode s))
+      ∙ map-ext (λ x. canonical (canonical x)) canonical (own_ends (decode s)) (λ x m. canonical-again x))
       ∙ ap (map canonical) own-listed
 
   pub own-labels-listed : (dirs : List ℕ) (g : Grid) → area_labels dirs g (own_ends (decode s)) ≡ area_labels dirs g (spans_in ends count)

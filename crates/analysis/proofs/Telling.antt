@@ -43,7 +43,8 @@ module _ (ls before : List ℕ) (small : (i : ℕ) → i < length ls → get_or 
   first-written =
       let rest : List ℕ = replicate (6 * length ls) 0 ++ drop (10 * length ls) before in
       let z : 0 + length (flat_map u32_bytes ls) ≡ length (flat_map u32_bytes ls) = omega arith in
-      ap (λ (t : List ℕ). flat_map u32_bytes ls ++ t) (sym (ap (λ (i : ℕ). drop i (flat_map u32_bytes ls ++ rest)) z ∙ drop-append_seam (flat_map u32_bytes ls) rest))
+      ap (λ (t : List ℕ). flat_map u32_bytes ls ++ t)
+      (sym (ap (λ (i : ℕ). drop i (flat_map u32_bytes ls ++ rest)) z ∙ drop-append_seam (flat_map u32_bytes ls) rest))
 
   pub label-read : (i : ℕ) → i < length ls → word (labelled ls before) i ≡ get_or ls i 0
   label-read i h = ap (λ (w : List ℕ). word w i) first-written ∙ word_read (labelled ls before) ls i h (small i h)

@@ -50,7 +50,8 @@ module _ (lowers highers : List ℕ) (a x : ℕ) (h : a < x) where
   hits i = eqb x (get_or lowers i 0) || eqb x (get_or highers i 0)
 
   term-hit : (i : ℕ) → hits i ≡ true
-      → cond (leb (get_or lowers i 0) a) 1 0 + cond (leb (get_or highers i 0) a) 1 0 + 1 ≤ cond (leb (get_or lowers i 0) x) 1 0 + cond (leb (get_or highers i 0) x) 1 0
+      → cond (leb (get_or lowers i 0) a) 1 0 + cond (leb (get_or highers i 0) a) 1 0 + 1 ≤ cond (leb (get_or lowers i 0) x) 1 0
+      + cond (leb (get_or highers i 0) x) 1 0
   term-hit i t =
       ⊎_elim (λ (e : eqb x (get_or lowers i 0) ≡ true).
       omega (arith, unit-hit (get_or lowers i 0) a x (eqb-true x (get_or lowers i 0) e) h, unit-mono (get_or highers i 0) a x (omega arith)))
@@ -263,7 +264,8 @@ module _ {d : Given} {n : ℕ} (below : OwnersBelow d.owners d.count n) where
     all = λ top h. c.all ∙ ap (map (found_link d)) (keep_same (found d) after top (λ y l. between d n below after y l (λ z. absurd (omega arith))) h);
   }
 
-pub two-below : (owners lefts rights : List ℕ) {n k : ℕ} (r : ℕ) {t : Touching} → OwnersBelow owners k n → t ≡ touching_after (record_in owners lefts rights) r k
+pub two-below : (owners lefts rights : List ℕ) {n k : ℕ} (r : ℕ) {t : Touching} → OwnersBelow owners k n
+    → t ≡ touching_after (record_in owners lefts rights) r k
     → TwoBelow t.count t.first t.second n
 two-below owners lefts rights r h e = record { both = rw e (λ q. let w = two-ranks owners lefts rights r h q in (w.0, w.1)) }
 

@@ -83,7 +83,8 @@ module _ (owners lefts rights : List ℕ) (k : ℕ) {counts lowers highers : Lis
       (get_or-set_same counts i (get_or counts i 0 + 1) 0 (omega (arith, h.counts-length)) ∙ ap (λ (n : ℕ). n + 1) (h.counts-are i l)))
       (λ e. rw (others i e) (get_or-set_other counts o i (get_or counts o 0 + 1) 0 e ∙ h.counts-are i l))
 
-  field_is : (field : Record → ℕ) (xs : List ℕ) → length xs ≡ 256 → ((i : ℕ) → i < 256 → get_or xs i 0 ≡ field (get_or (owner_records f k i) 0 no_record)) → (i : ℕ)
+  field_is : (field : Record → ℕ) (xs : List ℕ) → length xs ≡ 256 → ((i : ℕ) → i < 256 → get_or xs i 0 ≡ field (get_or (owner_records f k i) 0 no_record))
+      → (i : ℕ)
       → i < 256
       → get_or (cond (eqb (get_or counts o 0) 0) (set xs o (field (f k))) xs) i 0 ≡ field (get_or (owner_records f (k + 1) i) 0 no_record)
   field_is field xs s g i l =

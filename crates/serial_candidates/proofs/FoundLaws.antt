@@ -44,7 +44,8 @@ pub record Tells (dirs : List ℕ) (g : Grid) (anchors : List WalkPosition) (l :
   pub anchored : d.anchors ≡ anchor_labels g.width (region_labels dirs g l) anchors
 
 -- a region among the only pair is one of its two
-only-pair : (r : ℕ) (ps : List RegionPair) → length ps ≡ 1 → in_pairs r ps ≡ true → (eqb r (get_or ps 0 no_pair).lower || eqb r (get_or ps 0 no_pair).higher) ≡ true
+only-pair : (r : ℕ) (ps : List RegionPair) → length ps ≡ 1 → in_pairs r ps ≡ true
+    → (eqb r (get_or ps 0 no_pair).lower || eqb r (get_or ps 0 no_pair).higher) ≡ true
 unfolding in_pairs
 only-pair r [] e h = absurd (omega (arith, e))
 only-pair r (p ∷ []) e h = or-false (in_pair r p) h

@@ -96,7 +96,8 @@ module _ (f : ℕ → Record) (r : ℕ) where
   apart : (k : ℕ) → length (touchers f r k) ≡ 2 → get_or (touchers f r k) 0 0 ≡ get_or (touchers f r k) 1 0 → ⊥
   unfolding touchers
   apart zero e q = omega (arith, e)
-  apart (suc k) e q = go (in_record r (f k)) (eqb (length (touchers f r k)) 0 || not (eqb (get_or (touchers f r k) (length (touchers f r k) - 1) 0) (f k).owner))
+  apart (suc k) e q = go (in_record r (f k))
+      (eqb (length (touchers f r k)) 0 || not (eqb (get_or (touchers f r k) (length (touchers f r k) - 1) 0) (f k).owner))
       refl e q (apart k)
     where
       go : (a b : Bool) → (eqb (length (touchers f r k)) 0 || not (eqb (get_or (touchers f r k) (length (touchers f r k) - 1) 0) (f k).owner)) ≡ b

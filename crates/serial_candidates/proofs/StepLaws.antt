@@ -67,7 +67,8 @@ pub can-link : (own ramps removed separated counts : List ℕ) (i : ℕ) {s : Sp
     → ((not coincides && eqb (get_or ramps i 0) 0) && full) ≡ can_link own ramps removed separated counts i
 unfolding can_link
 can-link own ramps removed separated counts i {s} e f g =
-    rw (f, g) (ap (λ (s : Span). (not (pos_same s.a s.b) && eqb (get_or ramps i 0) 0) && is_full (get_or removed i 0) (get_or separated i 0) (get_or counts i 0)) e)
+    rw (f, g) (ap (λ (s : Span). (not (pos_same s.a s.b) && eqb (get_or ramps i 0) 0)
+    && is_full (get_or removed i 0) (get_or separated i 0) (get_or counts i 0)) e)
 
 pub joined : (own marks lowers highers : List ℕ) (r : ℕ) {count first second i j : ℕ} {p q d : Bool} {s u : Span} → count ≡ 2 → i ≡ first → j ≡ second
     → p ≡ has_region marks lowers highers r i → q ≡ has_region marks lowers highers r j

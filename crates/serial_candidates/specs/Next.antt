@@ -12,4 +12,5 @@ considered after best mark lower higher = cond (eqb mark 1) (lesser_above after 
 -- in the pairs of the marked ones of the first k ranks
 unfoldable pub next_after : List ℕ → List ℕ → List ℕ → ℕ → ℕ → ℕ
 next_after marks lowers highers after zero = 0
-next_after marks lowers highers after (suc k) = considered after (next_after marks lowers highers after k) (get_or marks k 0) (get_or lowers k 0) (get_or highers k 0)
+next_after marks lowers highers after (suc k) =
+    considered after (next_after marks lowers highers after k) (get_or marks k 0) (get_or lowers k 0) (get_or highers k 0)

@@ -65,7 +65,8 @@ module _ {limits : Limits} {own bits regions firsts seconds : List ℕ} {g : Gri
         (λ q.
         ap (λ (z : ℕ). at (set fs k f) z) q
         ∙ (get_or-set_same fs k f 0 (omega (arith, J.flat-long))
-        ∙ (v ∙ ap (λ (z : ℕ). cond (flat_in (link_now limits own bits regions firsts seconds g ls z n) (stats_now limits own bits regions firsts seconds g ls z n))
+        ∙ (v ∙ ap (λ (z : ℕ). cond (flat_in (link_now limits own bits regions firsts seconds g ls z n)
+        (stats_now limits own bits regions firsts seconds g ls z n))
         1 0) (sym q))))
         (λ q. get_or-set_other fs k j f 0 q ∙ J.flat-is j (omega arith));
     inside_is = λ j b.

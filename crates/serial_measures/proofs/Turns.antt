@@ -89,7 +89,8 @@ module _ {limits : Limits} {own bits regions firsts seconds : List ℕ} {g : Gri
   other k b h = ne_eqb (at regions k) (label_at ls i) (λ e. h (number ∙ (ap (λ (z : ℕ). table_number work n z) (sym (e ∙ label)) ∙ N.own k b)))
 
   same-cells : (k : ℕ) → k < links → (v ≡ k + 1 → ⊥) → first_cells ls (at regions k) i ≡ first_cells ls (at regions k) (i + 1)
-  same-cells k b h = let s : suc i ≡ i + 1 = omega arith in sym (cells_out ls (at regions k) i (other k b h)) ∙ ap (λ (z : ℕ). first_cells ls (at regions k) z) s
+  same-cells k b h = let s : suc i ≡ i + 1 = omega arith in sym (cells_out ls (at regions k) i (other k b h))
+      ∙ ap (λ (z : ℕ). first_cells ls (at regions k) z) s
 
   same-link : (k : ℕ) → k < links → (v ≡ k + 1 → ⊥)
       → link_now limits own bits regions firsts seconds g ls k i ≡ link_now limits own bits regions firsts seconds g ls k (i + 1)

@@ -127,7 +127,8 @@ module _ (chosen firsts seconds : List ℕ) (n : ℕ) where
   marked k i = cond (joined_from chosen firsts seconds k (n - k) i) 1 0
 
   joined_step : (j : ℕ) → j < n → (i : ℕ)
-      → joined_from chosen firsts seconds j (n - j) i ≡ (is_on chosen j && joins_at firsts seconds i j) || joined_from chosen firsts seconds (suc j) (n - suc j) i
+      → joined_from chosen firsts seconds j (n - j) i ≡ (is_on chosen j && joins_at firsts seconds i j)
+      || joined_from chosen firsts seconds (suc j) (n - suc j) i
   unfolding joined_from chosen_from keep any
   joined_step j l i = ap (λ (ks : List ℕ). any (joins_at firsts seconds i) (keep (is_on chosen) ks)) (up-down j n l) ∙ choose (is_on chosen j)
     where

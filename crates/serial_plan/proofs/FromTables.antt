@@ -74,12 +74,14 @@ module _ {dirs : List ℕ} {g : Grid} {anchors : List WalkPosition} {l : List It
 
 -- marks of 1 and 0
 module _ {limits : Limits} {dirs : List ℕ} {g : Grid} {l : List Item} {regions firsts seconds : List ℕ} where
-  pub passed : {passing : List ℕ} {count : ℕ} → ((k : ℕ) → k < count → get_or passing k 0 ≡ cond (passes limits dirs g l (link_row regions firsts seconds k)) 1 0)
+  pub passed : {passing : List ℕ} {count : ℕ}
+      → ((k : ℕ) → k < count → get_or passing k 0 ≡ cond (passes limits dirs g l (link_row regions firsts seconds k)) 1 0)
       → Passed limits dirs g l regions firsts seconds passing count
   passed f = record { each = λ k h. ap (λ (x : ℕ). eqb x 1) (f k h) ∙ on-mark (passes limits dirs g l (link_row regions firsts seconds k)) }
 
   pub flat-inside : {flat : List ℕ} {count : ℕ}
-      → ((k : ℕ) → k < count → get_or flat k 0 ≡ cond (stays_inside limits dirs g l (link_row regions firsts seconds k) && is_flat dirs g l (get_or regions k 0)) 1 0)
+      → ((k : ℕ) → k < count → get_or flat k 0
+      ≡ cond (stays_inside limits dirs g l (link_row regions firsts seconds k) && is_flat dirs g l (get_or regions k 0)) 1 0)
       →
       FlatInside limits dirs g l regions firsts seconds flat count
   flat-inside f = record {

@@ -96,7 +96,8 @@ module _ (limits : Limits) {dirs : List ℕ} {g : Grid} {l : List Item} {n : ℕ
       into-by (λ c. serial_in limits own lowers highers regions firsts seconds passing (ranks_in n joined parts c) (numbers_in count chosen firsts parts c))
       (λ c. accepts_serial limits dirs g l (group_at n ks c))
       (λ c. retained_in limits own bits (ranks_in n joined parts c)) (λ c. retained limits l (group_at n ks c).ranks)
-      (λ c. sym (serial-is told (ranks_in n joined parts c) (inside c) regions firsts seconds (numbers_in count chosen firsts parts c) limits count some (below c)
+      (λ c. sym (serial-is told (ranks_in n joined parts c) (inside c) regions firsts seconds (numbers_in count chosen firsts parts c) limits count some
+      (below c)
       (λ k b. (ranked.first-in k b, ranked.second-in k b)) passing passed)
       ∙ ap (accepts_serial limits dirs g l) (sym (group-by regions firsts seconds chosen count few ranked parted marked c)))
       retained-at i h

@@ -170,7 +170,8 @@ module _ {dirs : List ℕ} {g : Grid} {l : List Item} {n : ℕ} {own bits lowers
 
   sum_is : (i : ℕ) → Memᴰ i rs → distance_to l rs i ≡ sum_in own rs i
   unfolding distance_to sum_in
-  sum_is i m = ap (λ (s : Span). distance_sum s (map (ends_at l) rs)) (ends_as i m) ∙ ap (distance_sum (span_in own i)) (map-ext (ends_at l) (span_in own) rs ends_as)
+  sum_is i m = ap (λ (s : Span). distance_sum s (map (ends_at l) rs)) (ends_as i m)
+      ∙ ap (distance_sum (span_in own i)) (map-ext (ends_at l) (span_in own) rs ends_as)
 
   least-is : least_width l rs ≡ of_bits binary64 (least_in bits rs)
   unfolding least_width least_in
@@ -188,7 +189,8 @@ module _ {dirs : List ℕ} {g : Grid} {l : List Item} {n : ℕ} {own bits lowers
   retained-by limits =
       ap (λ (es : List ℕ). get_or (sort (nearer l rs) es) 0 (get_or rs 0 0)) (eligible-is limits)
       ∙ ap (λ (es : List ℕ). get_or es 0 (get_or rs 0 0)) (sort-ext (nearer l rs) (nearer_in own rs) (eligible_in limits bits rs)
-      (λ i j m k. ap (λ (x : Float). no_later x (distance_to l rs j)) (sum_is i (among m)) ∙ ap (λ (x : Float). no_later (sum_in own rs i) x) (sum_is j (among k))))
+      (λ i j m k. ap (λ (x : Float). no_later x (distance_to l rs j)) (sum_is i (among m))
+      ∙ ap (λ (x : Float). no_later (sum_in own rs i) x) (sum_is j (among k))))
     where
       among : {i : ℕ} → Memᴰ i (eligible_in limits bits rs) → Memᴰ i rs
       among m = (keep-mem (fine_in limits bits (of_bits binary64 (least_in bits rs))) rs m).0
@@ -236,7 +238,8 @@ module _ {dirs : List ℕ} {g : Grid} {l : List Item} {n : ℕ} {own bits lowers
           ap (λ (es : List ℕ). rank_distance l (get_or es 0 0) (get_or es 1 0)) (ends_is regions firsts seconds rs js)
           ∙ (ap (λ (s : Span). centre_distance s (ends_at l (get_or (ends_in firsts seconds rs js) 1 0)))
           (told.ends (get_or (ends_in firsts seconds rs js) 0 0) (end_below 0))
-          ∙ ap (centre_distance (span_in own (get_or (ends_in firsts seconds rs js) 0 0))) (told.ends (get_or (ends_in firsts seconds rs js) 1 0) (end_below 1)))
+          ∙ ap (centre_distance (span_in own (get_or (ends_in firsts seconds rs js) 0 0)))
+          (told.ends (get_or (ends_in firsts seconds rs js) 1 0) (end_below 1)))
 
       pub serial-is : (passing : List ℕ) → Passed limits dirs g l regions firsts seconds passing links
           → accepts_serial limits dirs g l (group_by regions firsts seconds rs js) ≡ serial_in limits own lowers highers regions firsts seconds passing rs js

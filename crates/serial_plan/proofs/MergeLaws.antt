@@ -31,7 +31,8 @@ free-by : (t : Bool) (x : ℕ) → (t ≡ true → x < 256) → eqb (cond t x 25
 free-by true x f = ne_eqb x 256 (λ e. omega (arith, f refl))
 free-by false x f = refl
 
-goes_by_lem : (a b : Bool) (x y i p : ℕ) → (a ≡ true → x < 256) → (b ≡ true → y < 256) → (a ≡ true → p ≡ x) → (b ≡ true → p ≡ y) → (a ≡ false → b ≡ false → p ≡ i)
+goes_by_lem : (a b : Bool) (x y i p : ℕ) → (a ≡ true → x < 256) → (b ≡ true → y < 256) → (a ≡ true → p ≡ x) → (b ≡ true → p ≡ y)
+    → (a ≡ false → b ≡ false → p ≡ i)
     → p ≡ goes_to (cond a x 256) (cond b y 256) i
 goes_by_lem true b x y i p f g s t u = let h : eqb x 256 ≡ false = ne_eqb x 256 (λ e. omega (arith, f refl)) in rw h (s refl)
 goes_by_lem false true x y i p f g s t u = let h : eqb y 256 ≡ false = ne_eqb y 256 (λ e. omega (arith, g refl)) in rw h (t refl)
@@ -59,7 +60,8 @@ module _ (limits : Limits) (dirs : List ℕ) (g : Grid) (anchors : List WalkPosi
   pub left_is : (i : ℕ) → i < length l → is_left limits dirs g anchors l i ≡ eqb (serial_goes i) 256
   left_is i h =
       ap not (serial-any limits dirs g anchors l i h)
-      ∙ sym (free-by (serial_taken limits dirs g anchors l i) (retained limits l (own_group (length l) (serial_links dirs g anchors l) i).ranks) (serial-low i h))
+      ∙ sym (free-by (serial_taken limits dirs g anchors l i) (retained limits l (own_group (length l) (serial_links dirs g anchors l) i).ranks)
+      (serial-low i h))
 
   pub plan-goes : (i : ℕ) → i < length l → merge_plan limits dirs g anchors l i ≡ goes_to (serial_goes i) (flat_goes i) i
   plan-goes i h =

@@ -48,7 +48,8 @@ module _ (firsts seconds own : List ℕ) where
   pub chain-added : (f : Few) {p : Parts} {r : Length} → PartsOf p (map gap (few_list f)) → TotalOfParts p r
       → r ≡ chain_total_in firsts seconds own (few_list f)
   unfolding chain_in
-  chain-added f h t = t (map gap (few_list f)) h ∙ ap (λ (xs : List Float). record { value = ascending_sum xs; exact = all_exact (map gap (few_list f)) }) values
+  chain-added f h t = t (map gap (few_list f)) h
+      ∙ ap (λ (xs : List Float). record { value = ascending_sum xs; exact = all_exact (map gap (few_list f)) }) values
     where
       values : map length_value (map gap (few_list f)) ≡ map (gap_in firsts seconds own) (few_list f)
       values = map-map length_value gap (few_list f)

@@ -24,5 +24,6 @@ module _ (limits : Limits) (n : ℕ) (own bits lowers highers regions firsts sec
   unfolding flat_in retained_in
   flat_into chosen joined parts i =
       cond (is_on joined i)
-      (cond (flat_in limits own lowers highers regions firsts seconds (ranks_in n joined parts (at parts i)) (numbers_in links chosen firsts parts (at parts i)))
+      (cond (flat_in limits own lowers highers regions firsts seconds (ranks_in n joined parts (at parts i))
+      (numbers_in links chosen firsts parts (at parts i)))
       (retained_in limits own bits (ranks_in n joined parts (at parts i))) 256) 256

@@ -37,5 +37,5 @@ pub record PlanInput (job : List ℕ) (start bases : ℕ) (cells : List ℕ) (wi
   pub dirs : List ℕ
   pub items : List Item
   pub marks : List ℕ
-  pub listed : ListingTables dirs (map_of width height cells) items n own bits ramps (labels_in work (length cells)) removed separated owners lefts rights records
-      marks
+  pub listed : ListingTables dirs (map_of width height cells) items n own bits ramps (labels_in work (length cells))
+      removed separated owners lefts rights records marks

@@ -23,19 +23,23 @@ abbrev decreases-loop : tie.decreases-loop-k
 decreases-loop cells width height work regions firsts seconds links own bits limits passing flat inside n table₀ stats k₀ table k = links - k
 
 abbrev invariant-loop2 : tie.invariant-loop-i
-invariant-loop2 cells width height work regions firsts seconds links own bits limits passing flat inside n table₀ stats₀ k column₀ row₀ i₀ table stats column row i =
+invariant-loop2 cells width height work regions firsts seconds links own bits limits passing flat inside n table₀ stats₀ k column₀ row₀ i₀ table stats column
+    row i =
     (i ≤ length cells) × (row * width + column ≡ i) × (column < width)
-    × Running (limits_of limits) own bits regions firsts seconds (record { width = width; height = height; cells = cells }) (labels_in work (length cells)) links
+    × Running (limits_of limits) own bits regions firsts seconds (record { width = width; height = height; cells = cells }) (labels_in work (length cells))
+    links
     i table stats
 
 abbrev decreases-loop2 : tie.decreases-loop-i
-decreases-loop2 cells width height work regions firsts seconds links own bits limits passing flat inside n table₀ stats₀ k column₀ row₀ i₀ table stats column row i =
+decreases-loop2 cells width height work regions firsts seconds links own bits limits passing flat inside n table₀ stats₀ k column₀ row₀ i₀ table stats column
+    row i =
     length cells - i
 
 abbrev invariant-loop3 : tie.invariant-loop-m
 invariant-loop3 cells width height work regions firsts seconds links own bits limits passing₀ flat₀ inside₀ n table stats k column row i m₀ passing flat inside
     m = (m ≤ links)
-    × Running (limits_of limits) own bits regions firsts seconds (record { width = width; height = height; cells = cells }) (labels_in work (length cells)) links
+    × Running (limits_of limits) own bits regions firsts seconds (record { width = width; height = height; cells = cells }) (labels_in work (length cells))
+    links
     (length cells) table stats × Judged (limits_of limits) own bits regions firsts seconds (record { width = width; height = height; cells = cells })
     (labels_in work (length cells)) (length cells) m passing flat inside
 

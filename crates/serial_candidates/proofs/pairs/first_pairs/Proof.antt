@@ -8,7 +8,8 @@ use Rattle.serial_candidates.proofs.pairs.first_pairs.Statement.{statement}
 use Rattle.serial_candidates.proofs.pairs.first_pairs.Tie as tie
 
 abbrev invariant-loop : tie.invariant-loop-k
-invariant-loop owners lefts rights records counts₀ lowers₀ highers₀ k₀ counts lowers highers k = (k ≤ records) × Firsts owners lefts rights k counts lowers highers
+invariant-loop owners lefts rights records counts₀ lowers₀ highers₀ k₀ counts lowers highers k = (k ≤ records)
+    × Firsts owners lefts rights k counts lowers highers
 
 abbrev decreases-loop : tie.decreases-loop-k
 decreases-loop owners lefts rights records counts₀ lowers₀ highers₀ k₀ counts lowers highers k = records - k

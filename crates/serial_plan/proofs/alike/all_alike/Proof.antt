@@ -40,7 +40,8 @@ loop-again c =
     let limits = start.args.limits in
     let ranks = start.args.ranks in (
       omega (arith, at-loop.loop-j.invariant.0),
-      each_next (λ i. every (alike_in (limits_of limits) own i) (few_list ranks)) (few_at ranks) ranks.count c.alike_to_all-all.result at-loop.loop-j.invariant.1
+      each_next (λ i. every (alike_in (limits_of limits) own i) (few_list ranks)) (few_at ranks) ranks.count c.alike_to_all-all.result
+          at-loop.loop-j.invariant.1
           turning.loop-j-test.true at-loop.loop-j.invariant.0
           (c.alike_to_all-all.ensures ∙ ap (λ i. every (alike_in (limits_of limits) own i) (few_list ranks)) c.index.ensures.0) refl,
     )

@@ -15,11 +15,10 @@ abbrev decreases-loop : tie.decreases-loop-i
 decreases-loop n serial flat plan₀ i₀ plan i = n - i
 
 loop-again : tie.Need-loop-i-preserved invariant-loop decreases-loop
-loop-again c =
-    (
-      omega (arith, c.loop-i-test.true),
-      filled_next c.goes_to.result c.loop-i.invariant.1 (omega (arith, c.loop-i-test.true, c.requires.0)) c.goes_to.ensures,
-    )
+loop-again c = (
+  omega (arith, c.loop-i-test.true),
+  filled_next c.goes_to.result c.loop-i.invariant.1 (omega (arith, c.loop-i-test.true, c.requires.0)) c.goes_to.ensures,
+)
 
 pub combine_spec : {M : Type 1} → statement M
 combine_spec =

@@ -24,11 +24,10 @@ element-write-into c =
     omega (arith, c.loop-i-test.true, c.requires.1.fit.few, c.loop-i.invariant.1.size)
 
 loop-again : tie.Need-loop-i-preserved invariant-loop decreases-loop
-loop-again c =
-    (
-      omega (arith, c.loop-i-test.true),
-      filled_next c.one_flat.result c.loop-i.invariant.1 (omega (arith, c.loop-i-test.true, c.requires.1.fit.few)) c.one_flat.ensures,
-    )
+loop-again c = (
+  omega (arith, c.loop-i-test.true),
+  filled_next c.one_flat.result c.loop-i.invariant.1 (omega (arith, c.loop-i-test.true, c.requires.1.fit.few)) c.one_flat.ensures,
+)
 
 pub into_flat_spec : {M : Type 1} → statement M
 into_flat_spec =

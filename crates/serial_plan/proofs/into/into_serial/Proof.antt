@@ -24,12 +24,11 @@ element-write-into c =
     omega (arith, c.loop-i-test.true, c.requires.1.fit.few, c.loop-i.invariant.1.size)
 
 loop-again : tie.Need-loop-i-preserved invariant-loop decreases-loop
-loop-again c =
-    (
-      omega (arith, c.loop-i-test.true),
-      filled_next c.one_serial.result c.loop-i.invariant.1 (omega (arith, c.loop-i-test.true, c.requires.1.fit.few))
-          c.one_serial.ensures,
-    )
+loop-again c = (
+  omega (arith, c.loop-i-test.true),
+  filled_next c.one_serial.result c.loop-i.invariant.1 (omega (arith, c.loop-i-test.true, c.requires.1.fit.few))
+      c.one_serial.ensures,
+)
 
 pub into_serial_spec : {M : Type 1} → statement M
 into_serial_spec =

@@ -14,7 +14,8 @@ use Rattle.serial_plan.proofs.path.regular.Tie as tie
 
 abbrev invariant-loop : tie.invariant-loop-j
 invariant-loop firsts seconds ranks links all₀ j₀ all j =
-    (j ≤ ranks.count) × Each (λ (i : ℕ). leb 1 (degree_in firsts seconds (few_list links) i) && leb (degree_in firsts seconds (few_list links) i) 2) (few_at ranks)
+    (j ≤ ranks.count) × Each (λ (i : ℕ). leb 1 (degree_in firsts seconds (few_list links) i) && leb (degree_in firsts seconds (few_list links) i) 2)
+    (few_at ranks)
     ranks.count j all
 
 abbrev decreases-loop : tie.decreases-loop-j
@@ -48,7 +49,8 @@ loop-again c =
     let ranks = start.args.ranks in
     let links = start.args.links in (
       omega (arith, at-loop.loop-j.invariant.0),
-      each_next (λ (i : ℕ). leb 1 (degree_in firsts seconds (few_list links) i) && leb (degree_in firsts seconds (few_list links) i) 2) (few_at ranks) ranks.count
+      each_next (λ (i : ℕ). leb 1 (degree_in firsts seconds (few_list links) i) && leb (degree_in firsts seconds (few_list links) i) 2) (few_at ranks)
+          ranks.count
           (leb 1 at-links-at.links_at-near.result.count && leb at-links-at.links_at-near.result.count 2) at-loop.loop-j.invariant.1 turning.loop-j-test.true
           at-loop.loop-j.invariant.0
           (ap (λ (d : ℕ). leb 1 d && leb d 2) (ap (λ (n : Near). n.count) at-links-at.links_at-near.ensures)

@@ -14,7 +14,7 @@ anchor-labels-requires : tie.Need-anchor_labels-anchored-requires
 anchor-labels-requires c κs = let start : tie.Start = search in (readable start.requires, omega (arith, start.requires.few-bases))
 
 room : tie.Need-slice_bounds-candidate_links-end
-room c = let labels : tie.After-anchor_labels-anchored = search in sym (length-take-le labels.anchor_labels-anchored.result _ labels.anchor_labels-anchored.ensures.fits)
+room c = sym (length-take-le c.anchor_labels-anchored.result _ c.anchor_labels-anchored.ensures.fits)
 
 candidate-links-requires : tie.Need-candidate_links-links-requires
 candidate-links-requires c κs = let start : tie.Start = search in findable start.requires

@@ -24,14 +24,13 @@ returns c =
     )
 
 nearest-requires : tie.Need-nearest-requires
-nearest-requires c κs =
-    (
-      c.requires.0,
-      positive c.eligible-among.result.count c.if-among-eq0.false,
-      c.requires.2,
-      kept-slots (RankFits c.args.own.now) (fine_in (limits_of c.args.limits) c.args.bits.now c.width_of-least.result)
-          c.args.ranks c.eligible-among.ensures c.requires.2 c.requires.4,
-    )
+nearest-requires c κs = (
+  c.requires.0,
+  positive c.eligible-among.result.count c.if-among-eq0.false,
+  c.requires.2,
+  kept-slots (RankFits c.args.own.now) (fine_in (limits_of c.args.limits) c.args.bits.now c.width_of-least.result)
+      c.args.ranks c.eligible-among.ensures c.requires.2 c.requires.4,
+)
 
 returns-2 : tie.Need-returns
 returns-2 c =
