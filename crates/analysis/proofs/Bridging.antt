@@ -16,7 +16,7 @@ use Rattle.wire.proofs.Parts.{part_left, part_right}
 use Rattle.wire.proofs.Numbers.{length-bytes}
 use Rattle.wire.proofs.Words.{four_bytes}
 use Rattle.graph.specs.Records.{Record, records_in, record_at, no_record}
-use Rattle.graph.proofs.Records.{records-length, records-at}
+use Rattle.graph.proofs.Records.{records-at}
 use Rattle.grid.specs.Cells.{Grid, size}
 use Rattle.areas.specs.Areas.{area_labels}
 use Rattle.areas.specs.Spans.{spans_in}

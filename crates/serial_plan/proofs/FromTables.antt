@@ -17,7 +17,7 @@ use Rattle.serial_links.specs.Limits.{Limits}
 use Rattle.context.specs.FullPair.{full_pair}
 use Rattle.context.specs.Listing.{Item}
 use Rattle.serial_groups.specs.Regions.{assess_at}
-use Rattle.serial_groups.specs.Links.{LinkAt, links, IsLink}
+use Rattle.serial_groups.specs.Links.{LinkAt, IsLink}
 use Rattle.serial_groups.specs.Measuring.{passes, stays_inside}
 use Rattle.serial_groups.specs.Flat.{is_flat}
 use Rattle.serial_groups.specs.Tables.{Boundaries, FirstPairs, link_row, links_in, LinkTable}

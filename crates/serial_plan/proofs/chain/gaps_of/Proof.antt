@@ -6,7 +6,6 @@ use borrow.Author.Rules.{rules}
 use Rattle.order.specs.Lists.{up_from}
 use Rattle.serial_sums.specs.Parts.{PartsOf}
 use Rattle.serial_sums.proofs.PartLaws.{parts-start, parts-count, parts_next}
-use Rattle.serial_plan.specs.Few.{few_at}
 use Rattle.serial_plan.specs.Fitting.{LinkFits}
 use Rattle.serial_plan.specs.Shape.{gap_length_in}
 use Rattle.serial_plan.proofs.SumLaws.{gap_at, gap-value, gaps-end}
