@@ -23,7 +23,8 @@ pub over-limit : (input : List ℕ) → most_input < length input → too_large 
 unfolding choke_list
 over-limit input h = rw (lt-ltb most_input (length input) h)
 
-pub within-limit : (input : List ℕ) → length input ≤ most_input → printed (reduce_result input block000 (zeros lent_work) (zeros lent_answer)) ≡ choke_list input
+pub within-limit : (input : List ℕ) → length input ≤ most_input
+    → printed (reduce_result input block000 (zeros lent_work) (zeros lent_answer)) ≡ choke_list input
 unfolding choke_list
 within-limit input h = rw (le-ltb most_input (length input) h)
 

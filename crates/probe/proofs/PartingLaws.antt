@@ -41,7 +41,8 @@ use Rattle.probe.proofs.WritingLaws.{flat-blocks, blocks-same}
 
 -- 4,097 pairs stand for over 4,096
 module _ {count pairs found : ℕ} {held bytes out out_end : List ℕ} {number detail : ℕ} where
-  over-many : 4096 < found → pairs ≡ 4097 → PartitionBytes count pairs held out out_end number detail → PartitionBytes count found bytes out out_end number detail
+  over-many : 4096 < found → pairs ≡ 4097 → PartitionBytes count pairs held out out_end number detail
+      → PartitionBytes count found bytes out out_end number detail
   over-many l e (many _ n d u) = many l n d u
   over-many l e (short q _ _ _ _) = absurd (omega arith)
   over-many l e (written q _ _ _ _) = absurd (omega arith)
@@ -76,7 +77,8 @@ module _ (dirs : List ℕ) (g : Grid) where
       let e : assess dirs g ss x ≡ assess dirs g ts (canonical x) = assess-same dirs g ss ts same x (canonical x) (sym (canonical-again x)) in
       rw (e, counts-canonical ss ts same xs) refl
 
-  pub bytes-canonical : (ss ts : List Span) → map canonical ss ≡ ts → map canonical ss ≡ map canonical ts → partition_bytes dirs g ss ≡ partition_bytes dirs g ts
+  pub bytes-canonical : (ss ts : List Span) → map canonical ss ≡ ts → map canonical ss ≡ map canonical ts
+      → partition_bytes dirs g ss ≡ partition_bytes dirs g ts
   unfolding partition_bytes
   bytes-canonical ss ts e f =
       let a : area_count dirs g ss ≡ area_count dirs g ts = count-depends-on-the-set dirs g ss ts (eq-same f) in

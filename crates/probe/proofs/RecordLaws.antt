@@ -25,7 +25,8 @@ use Rattle.probe.specs.Records.{owner_at, left_at, right_at, records_at, fitting
 use Rattle.probe.specs.Records.{uneven, many, unfit, short, sound}
 
 -- a list that is f up to k, with f k at k
-one_more : (l : List ℕ) (f : ℕ → ℕ) (k v : ℕ) → k < length l → ((i : ℕ) → i < k → get_or l i 0 ≡ f i) → v ≡ f k → (i : ℕ) → i < k + 1 → get_or (set l k v) i 0 ≡ f i
+one_more : (l : List ℕ) (f : ℕ → ℕ) (k v : ℕ) → k < length l → ((i : ℕ) → i < k → get_or l i 0 ≡ f i) → v ≡ f k → (i : ℕ) → i < k + 1
+    → get_or (set l k v) i 0 ≡ f i
 one_more l f k v inside before e i h =
     by_cases (ℕ_discrete i k)
     (λ q. ap (λ (j : ℕ). get_or (set l k v) j 0) q ∙ get_or-set_same l k v 0 inside ∙ e ∙ sym (ap f q))

@@ -10,7 +10,8 @@ use Rattle.probe.proofs.bare_records.load.Statement.{statement}
 use Rattle.probe.proofs.bare_records.load.Tie as tie
 
 abbrev invariant-loop : tie.invariant-loop-k
-invariant-loop records n owners₀ lefts₀ rights₀ k₀ owners lefts rights k = (k ≤ n) × (n ≤ 4096) × (12 * n ≤ length records) × Loaded records k owners lefts rights
+invariant-loop records n owners₀ lefts₀ rights₀ k₀ owners lefts rights k =
+    (k ≤ n) × (n ≤ 4096) × (12 * n ≤ length records) × Loaded records k owners lefts rights
 
 abbrev decreases-loop : tie.decreases-loop-k
 decreases-loop records n owners₀ lefts₀ rights₀ k₀ owners lefts rights k = n - k
