@@ -33,7 +33,6 @@ pub choke_list_spec : {M : Type 1} → statement M
 choke_list_spec =
     tie.close
     (tie.spec
-    (λ c. search rules)
     (λ c κs. search rules)
     returns
     (λ c. search rules)
