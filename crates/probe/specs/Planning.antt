@@ -1,5 +1,5 @@
 -- What the driver's plan function leaves.
-use Rattle.std.specs.Prelude.{◌≡◌, cond, List, ℕ, ◌+◌, ◌*◌, ◌≤◌, ◌<◌, eqb, length, get_or, drop}
+use Rattle.std.specs.Prelude.{◌≡◌, cond, List, ℕ, ◌*◌, ◌≤◌, ◌<◌, eqb, length, get_or, drop}
 use Rattle.std.proofs.Math.Option.{none}
 use Rattle.areas.specs.Words.{labelled}
 use Rattle.wire.specs.Bytes.{part, u32_bytes}
