@@ -131,7 +131,7 @@ pub blocks-words : (ws : List ℕ) → blocks (length ws) (λ j. u32_bytes (get_
 unfolding words
 blocks-words ws =
     sym (flat-blocks u32_bytes (λ j. get_or ws j 0) (length ws))
-        ∙ ap (flat_map u32_bytes) (sym (by_rows ws (length ws) (λ j. get_or ws j 0) 0 refl (λ i h. refl)))
+    ∙ ap (flat_map u32_bytes) (sym (by_rows ws (length ws) (λ j. get_or ws j 0) 0 refl (λ i h. refl)))
 
 pub filled-words : (ws : List ℕ) {s e : List ℕ} {k : ℕ} → Filled 4 (λ j. u32_bytes (get_or ws j 0)) (λ j. length-bytes 4 (get_or ws j 0)) s 0 k e
     → k ≡ length ws

@@ -13,7 +13,7 @@ abbrev invariant-loop : tie.invariant-loop-k
 invariant-loop owners lefts rights pairs at out₀ k₀ out k =
     (k ≤ pairs) × (pairs ≤ 4096) × (at ≤ 4096) × (at + 12 * pairs ≤ length out₀)
     × Filled 12 (λ j. record_bytes (record_in owners lefts rights j)) (λ j. length_three (get_or owners j 0) (get_or lefts j 0) (get_or rights j 0)) out₀ at k
-        out
+    out
 
 abbrev decreases-loop : tie.decreases-loop-k
 decreases-loop owners lefts rights pairs at out₀ k₀ out k = pairs - k
