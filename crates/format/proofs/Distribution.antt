@@ -72,7 +72,8 @@ records-add-up bs = record {
       ap sum (map-map (λ (r : BoundaryRecord). r.observations) boundary_record bs)
       ∙ sym (length-flat_map (λ (b : Boundary). b.observations) bs)
       ∙ sym (length-map (observations_of bs) observation_record);
-  sources = ap (λ (k : ℕ). sum (map (λ (r : BoundaryRecord). r.sources) (map boundary_record bs)) + k) (source-count (observations_of bs)) ∙ own-and-observed bs;
+  sources =
+      ap (λ (k : ℕ). sum (map (λ (r : BoundaryRecord). r.sources) (map boundary_record bs)) + k) (source-count (observations_of bs)) ∙ own-and-observed bs;
 }
 
 count-split : (k : ℕ) (os : List ObservationRecord) → source_count os ≡ source_count (take k os) + source_count (drop k os)

@@ -9,7 +9,8 @@ use Rattle.wire.specs.Bytes.{part, AreBytes}
 use Rattle.wire.proofs.Parts.{part_join, part-whole, length_part}
 use Rattle.format.specs.Sizes.{header_size, base_size}
 use Rattle.format.specs.Values.{Job}
-use Rattle.format.specs.Header.{counts_at, counts_bytes, offsets_bytes, map_cells, bases_start, boundaries_start, observations_start, sources_start, total_length}
+use Rattle.format.specs.Header.{counts_at, counts_bytes, offsets_bytes, map_cells, bases_start, boundaries_start, observations_start, sources_start}
+use Rattle.format.specs.Header.{total_length}
 use Rattle.format.specs.Header.{offsets_of}
 use Rattle.format.specs.Encode.{encode_boundaries, counts_of, encode}
 use Rattle.format.specs.Decode.{base_of, boundary_records, observation_records, source_records, base_records, decode_boundaries, job_with, decode}

@@ -41,7 +41,8 @@ decode_list-encode_list ss h =
     let l : length (encode_list ss) ≡ length ss * span_size = length-encode_list ss in
     let m : length (encode_list ss) / span_size * span_size ≡ length (encode_list ss) = omega arith in
     from_start (encode_list ss)
-    ∙ rows-read span-trip h (length (encode_list ss) / span_size) (omega arith) (encode_list ss) 0 (ap (part (encode_list ss) 0) m ∙ part-whole (encode_list ss))
+    ∙ rows-read span-trip h (length (encode_list ss) / span_size) (omega arith) (encode_list ss) 0
+    (ap (part (encode_list ss) 0) m ∙ part-whole (encode_list ss))
 
 -- A list of whole spans that was read is written as it stood.
 pub encode_list-decode_list : (l : List ℕ) → AreBytes l → length l % span_size ≡ 0 → encode_list (decode_list l) ≡ l

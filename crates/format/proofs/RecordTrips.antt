@@ -2,7 +2,8 @@
 use mathlib.Core.Path.{refl}
 use mathlib.Core.List.{append_assoc}
 use Rattle.format.specs.Sizes.{base_size, boundary_size, observation_size, source_size, span_size}
-use Rattle.format.specs.Records.{position_at, position_bytes, span_at, span_bytes, source_at, source_bytes, base_at, base_bytes, ramp_at, ramp_bytes, boundary_at}
+use Rattle.format.specs.Records.{position_at, position_bytes, span_at, span_bytes, source_at, source_bytes, base_at, base_bytes, ramp_at, ramp_bytes}
+use Rattle.format.specs.Records.{boundary_at}
 use Rattle.format.specs.Records.{boundary_bytes, observation_at, observation_bytes}
 use Rattle.format.specs.Header.{counts_at, counts_bytes, offsets_at, offsets_bytes}
 use Rattle.format.specs.Fits.{PositionFits, SpanEncodable, SourceFits, BaseRecordFits, RampRecordFits, BoundaryRecordFits, ObservationRecordFits}

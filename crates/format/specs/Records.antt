@@ -49,7 +49,8 @@ ramp_bytes r = r.end ∷ r.lower ∷ r.upper ∷ r.zero ∷ u32_bytes r.id
 -- "Boundary, 40: two ends, f64 width bits, own source count, observation count", then its ramp
 unfoldable pub boundary_at : List ℕ → ℕ → BoundaryRecord
 unfolding span_at ramp_at
-boundary_at s i = record { ends = span_at s i; bits = u64_at s (i + 16); sources = u32_at s (i + 24); observations = u32_at s (i + 28); ramp = ramp_at s (i + 32) }
+boundary_at s i =
+    record { ends = span_at s i; bits = u64_at s (i + 16); sources = u32_at s (i + 24); observations = u32_at s (i + 28); ramp = ramp_at s (i + 32) }
 
 unfoldable pub boundary_bytes : BoundaryRecord → List ℕ
 unfolding span_bytes ramp_bytes

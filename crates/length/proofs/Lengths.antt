@@ -69,7 +69,8 @@ module _ (d s : ℕ) (D : d ≤ 2 ^ 29) (is : size (whole_root d) ≡ suc s) whe
       le_trans (mul-le-mul_right p a) (at_least d r (rest_of d) (whole_root n) (rest_of n) p (root_is d) (root_is n) (pow_pos (suc k))) in
       let hi : whole_root n < 2 ^ suc s * p = under d r (rest_of d) (whole_root n) (rest_of n) p (root_is d) (root_is n) (pow_pos (suc k)) (2 ^ suc s) b in
       subst (λ (z : ℕ). NearestLength d (round binary64 false (halved (whole_root (d * z))) p)) (sym (twice_power (suc k)))
-      (rounded d k (whole_root n) (rest_of n) (root_is n) (subst (λ (z : ℕ). z ≤ whole_root n) low lo) (subst (λ (z : ℕ). whole_root n < z) high hi) (omega arith))
+      (rounded d k (whole_root n) (rest_of n) (root_is n) (subst (λ (z : ℕ). z ≤ whole_root n) low lo) (subst (λ (z : ℕ). whole_root n < z) high hi)
+      (omega arith))
 
   places_is : root_places d ≡ suc (52 - s)
   unfolding root_places
