@@ -36,53 +36,50 @@ use thresholds::block;
 
 /// The names that the equations compute with, and short ones for values.
 const HEAD: &str = "\
-use mathlib.Core.Path.{_≡_, refl}
-use mathlib.Core.List.{List, [], _∷_, flatMap}
-use mathlib.Core.Option.{some}
-use Prim.Native.Nat.{ℕ}
-use mathlib.Core.Bool.{true, false}
-use lib.ListN.{replicate}
-use lib.Ieee.{binary64, neg, add, sub, mul, div, lt, le, ofBits, ofInt, toBits}
-use Rattle·order.specs.Lists.{gather, upFrom, has}
-use Rattle·order.specs.Sorting.{sort, insert, sortOnce, include}
-use Rattle·order.specs.Keys.{lexLe}
-use Rattle·length.specs.Length.{lengthOf}
-use Rattle·length.specs.Total.{totalKey}
-use Rattle·format.specs.Values.{Base, Ramp, Observation, Boundary, Job}
-use Rattle·format.specs.declared.records.Source.{Source}
-use Rattle·format.specs.Records.{spanAt, baseAt, rampAt, boundaryAt, observationAt, sourceAt}
-use Rattle·format.specs.Records.{spanBytes, rampBytes, sourceBytes, boundaryBytes, observationBytes}
-use Rattle·format.specs.Header.{countsAt, headerAt, offsetsOf}
-use Rattle·format.specs.Decode.{decode, decodeList, jobWith, baseRecords, boundaryRecords, observationRecords, sourceRecords}
-use Rattle·format.specs.Decode.{decodeBoundaries, sourceCount}
-use Rattle·format.specs.Encode.{encodeAnswer, answerWords, encodeBoundaries, boundaryRecord, observationRecord, observationsOf, sourcesOf}
-use Rattle·position.specs.Order.{posSame, posLe, canonical}
-use Rattle·position.specs.declared.Span.{Span}
-use Rattle·graph.specs.Parts.{componentOf}
-use Rattle·graph.specs.Labels.{count}
-use Rattle·grid.specs.Directions.{eight}
-use Rattle·serial_links.specs.Limits.{Limits}
-use Rattle·thresholds.specs.Block.{blockAt, blockFault, limitsIn, headBytes, numberBytes, blockBytes, numbers000, block000}
-use Rattle·context.specs.Anchors.{anchorsOf}
-use Rattle·context.specs.Listing.{spanKey, endsKey}
-use Rattle·serial_merging.specs.Keys.{sourceKey, sourcesKey, observationKey}
-use Rattle·serial_merging.specs.Copies.{canonObservation, canon, copiesOf}
-use Rattle·serial_merging.specs.Consolidation.{orItself, observed, consolidate}
-use Rattle·serial_merging.specs.Groups.{allGroups}
-use Rattle·serial_merging.specs.Kept.{membersOf, consolidated, slot, kept}
-use Rattle·serial_merging.specs.Runs.{reduceRun, itemsOf, canonItem, groupsOf, keptOf, rulesAnswer}
-use Rattle·areas.specs.Areas.{areaLabels}
-use Rattle·areas.specs.Assessments.{records}
-use Rattle·areas.specs.Words.{labelled}
-use Rattle·results.specs.Rules.{gridOf, rulesOn, rulesOf}
-use Rattle·wire.specs.Bytes.{part, splice, number, numberAt, words, bytes}
-use Rattle·context.specs.RegionStats.{regionStats}
-use Rattle·context.specs.Cards.{cards, cardBytes, cardWords}
-use Rattle·checks.specs.Checks.{firstRefusal, each}
-use Rattle·checks.specs.Single.{listChecks, spanCheck, headerChecks, cellCheck, baseCheck, sumsFault, rampCheck, widthCheck, endsCheck, spanChecks}
-use Rattle·checks_calls.specs.Refusals.{layoutChecks, recordChecks, jobChecks, endsChecks, boundaryChecks, reduceChecks, byListChecks}
-use Rattle·results.specs.Results.{ownEnds, labelsOf, marksOf, leftBy, afterWork, outcome, writing, reduced, reduceWith, reduceByListWith}
-use Rattle·results.specs.Calls.{reduceResult, reduceByListResult}
+use Rattle.std.specs.Prelude.{◌≡◌, refl, List, [], ◌∷◌, ℕ, false, replicate}
+use Rattle.std.proofs.Math.Option.{some}
+use Rattle.std.specs.Float.{binary64}
+use Rattle.std.specs.Float.Ieee.{neg, add, sub, mul, div, lt, le, of_bits, of_int, to_bits}
+use mathlib.Core.List.{flat_map}
+use Rattle.order.specs.Lists.{gather, up_from, has}
+use Rattle.order.specs.Sorting.{sort, insert, sort_once, include}
+use Rattle.order.specs.Keys.{lex_le}
+use Rattle.length.specs.Length.{length_of}
+use Rattle.length.specs.Total.{total_key}
+use Rattle.format.specs.Values.{Base, Ramp, Observation, Boundary, Job}
+use Rattle.format.specs.declared.records.Source.{Source}
+use Rattle.format.specs.Records.{span_at, base_at, ramp_at, boundary_at, observation_at, source_at}
+use Rattle.format.specs.Records.{span_bytes, ramp_bytes, source_bytes, boundary_bytes, observation_bytes}
+use Rattle.format.specs.Header.{counts_at, header_at, offsets_of}
+use Rattle.format.specs.Decode.{decode, decode_list, job_with, base_records, boundary_records, observation_records, source_records}
+use Rattle.format.specs.Decode.{decode_boundaries, source_count}
+use Rattle.format.specs.Encode.{encode_answer, answer_words, encode_boundaries, boundary_record, observation_record, observations_of, sources_of}
+use Rattle.position.specs.Order.{pos_same, pos_le, canonical}
+use Rattle.position.specs.declared.Span.{Span}
+use Rattle.graph.specs.Parts.{component_of}
+use Rattle.graph.specs.Labels.{count}
+use Rattle.grid.specs.Directions.{eight}
+use Rattle.thresholds.specs.Block.{block_at, block_fault, limits_in, head_bytes, number_bytes, block_bytes, numbers000, block000}
+use Rattle.context.specs.Anchors.{anchors_of}
+use Rattle.context.specs.Listing.{span_key, ends_key}
+use Rattle.serial_merging.specs.Keys.{source_key, sources_key, observation_key}
+use Rattle.serial_merging.specs.Copies.{canon_observation, canon, copies_of}
+use Rattle.serial_merging.specs.Consolidation.{or_itself, observed, consolidate}
+use Rattle.serial_merging.specs.Groups.{all_groups}
+use Rattle.serial_merging.specs.Kept.{members_of, consolidated, slot, kept}
+use Rattle.serial_merging.specs.Runs.{reduce_run, items_of, canon_item, groups_of, kept_of, rules_answer}
+use Rattle.areas.specs.Areas.{area_labels}
+use Rattle.areas.specs.Assessments.{records}
+use Rattle.areas.specs.Words.{labelled}
+use Rattle.results.specs.Rules.{grid_of, rules_on, rules_of}
+use Rattle.wire.specs.Bytes.{part, splice, number, number_at, words, bytes}
+use Rattle.context.specs.RegionStats.{region_stats}
+use Rattle.context.specs.Cards.{cards, card_bytes, card_words}
+use Rattle.checks.specs.Checks.{first_refusal, each}
+use Rattle.checks.specs.Single.{list_checks, span_check, header_checks, cell_check, base_check, sums_fault, ramp_check, width_check, ends_check, span_checks}
+use Rattle.checks_calls.specs.Refusals.{layout_checks, record_checks, job_checks, ends_checks, boundary_checks, reduce_checks, by_list_checks}
+use Rattle.results.specs.Results.{own_ends, labels_of, marks_of, left_by, after_work, outcome, writing, reduced, reduce_with, reduce_by_list_with}
+use Rattle.results.specs.Calls.{reduce_result, reduce_by_list_result}
 
 abbrev span : ℕ → ℕ → ℕ → ℕ → Span
 span a b c d = record { a = record { x = a; y = b }; b = record { x = c; y = d } }
@@ -104,23 +101,23 @@ base i x y = record { id = i; anchor = some (record { x = x; y = y }) }
 ";
 
 /// A block's numbers, read.
-const READING: &str = "limitsIn blockFault blockAt numberAt number part";
+const READING: &str = "limits_in block_fault block_at number_at number part";
 /// The bytes of that of 000.
 const OF_000_READ: &str =
-    "block000 blockBytes headBytes numberBytes numbers000 words flatMap bytes";
+    "block000 block_bytes head_bytes number_bytes numbers000 words flat_map bytes";
 /// And tested before all else; then that the job has a header.
-const REFUSING: &str = "reduceResult reduceByListResult reduceWith reduceByListWith reduced writing outcome \
-    firstRefusal blockFault blockAt numberAt number part reduceChecks boundaryChecks jobChecks layoutChecks";
-const LABELLING: &str = "areaLabels componentOf count upFrom";
-const MARKING: &str = "marksOf componentOf count upFrom";
+const REFUSING: &str = "reduce_result reduce_by_list_result reduce_with reduce_by_list_with reduced writing outcome \
+    first_refusal block_fault block_at number_at number part reduce_checks boundary_checks job_checks layout_checks";
+const LABELLING: &str = "area_labels component_of count up_from";
+const MARKING: &str = "marks_of component_of count up_from";
 /// Cards are computed of maps of so many cells at the most: of 40 the prover runs out of steps.
 const CARDED: usize = 20;
 /// Of the labels that the equation before has found.
-const CARDING: &str = "cards cardBytes cardWords regionStats words flatMap bytes upFrom";
-const KEEPING: &str = "rulesOn anchorsOf keptOf groupsOf itemsOf canonItem allGroups kept slot \
-    consolidated consolidate membersOf observed orItself copiesOf canon canonObservation canonical \
-    posLe endsKey spanKey sourceKey sourcesKey observationKey totalKey sort insert sortOnce include \
-    lexLe gather upFrom has componentOf count lengthOf ofInt ofBits toBits neg add sub mul div lt le";
+const CARDING: &str = "cards card_bytes card_words region_stats words flat_map bytes up_from";
+const KEEPING: &str = "rules_on anchors_of kept_of groups_of items_of canon_item all_groups kept slot \
+    consolidated consolidate members_of observed or_itself copies_of canon canon_observation canonical \
+    pos_le ends_key span_key source_key sources_key observation_key total_key sort insert sort_once include \
+    lex_le gather up_from has component_of count length_of of_int of_bits to_bits neg add sub mul div lt le";
 
 /// The numbers of 000.
 const OF_000: Thresholds = Thresholds::DECLARED;
@@ -191,11 +188,12 @@ fn admitted() -> Vec<Thresholds> {
 }
 
 /// A whole call, from bytes to bytes, besides what REFUSING and KEEPING open.
-const CALLING: &str = "afterWork labelled splice limitsIn byListChecks listChecks spanCheck headerChecks recordChecks each cellCheck \
-    baseCheck sumsFault rampCheck widthCheck endsChecks endsCheck spanChecks headerAt offsetsOf spanAt rampAt boundaryAt observationAt baseAt bytes \
-    words flatMap boundaryRecords observationRecords sourceCount posSame decode decodeList jobWith decodeBoundaries countsAt baseRecords sourceRecords \
-    sourceAt areaLabels records rulesAnswer encodeAnswer answerWords encodeBoundaries boundaryRecord observationRecord observationsOf \
-    sourcesOf rampBytes boundaryBytes observationBytes sourceBytes spanBytes";
+const CALLING: &str = "after_work labelled splice limits_in by_list_checks list_checks span_check header_checks record_checks each \
+    cell_check base_check sums_fault ramp_check width_check ends_checks ends_check span_checks header_at offsets_of span_at ramp_at \
+    boundary_at observation_at base_at bytes words flat_map boundary_records observation_records source_count pos_same decode decode_list \
+    job_with decode_boundaries counts_at base_records source_records source_at area_labels records rules_answer encode_answer answer_words \
+    encode_boundaries boundary_record observation_record observations_of sources_of ramp_bytes boundary_bytes observation_bytes source_bytes \
+    span_bytes";
 /// Whole calls are computed of maps of so many cells at the most.
 const CALLED: usize = 22;
 
@@ -458,7 +456,7 @@ impl Job {
         let input = self.input();
         let mut text = unfoldable(&format!("bytes{k}"), &input.job);
         text += &unfoldable(&format!("list{k}"), &input.list);
-        for (call, name, more) in [(REDUCE, "reduce", 0), (BY_LIST, "reduceByList", 3)] {
+        for (call, name, more) in [(REDUCE, "reduce", 0), (BY_LIST, "reduce_by_list", 3)] {
             let expected = Expected::of(call, &input.job, &input.list, &input.thresholds);
             let lengths = [expected.work() + more, expected.written.len() + more];
             let left = expected.left(&vec![7; lengths[0]], &vec![9; lengths[1]]);
@@ -467,8 +465,8 @@ impl Job {
             let (number, detail) = left.result;
             let listed = if call == BY_LIST { format!("list{k} ") } else { String::new() };
             text += &format!(
-                "\n{name}{k} : {name}Result bytes{k} {listed}{block} (replicate {} 7) (replicate {} 9) ≡ \
-                 leftBy {number} {detail} ({work}) ({out})\n\
+                "\n{name}{k} : {name}_result bytes{k} {listed}{block} (replicate {} 7) (replicate {} 9) ≡ \
+                 left_by {number} {detail} ({work}) ({out})\n\
                  unfolding bytes{k} list{k} {}\n{name}{k} = refl\n",
                 lent[0],
                 lent[1],
@@ -509,7 +507,7 @@ impl Job {
             }
         };
         let opened = if block.is_empty() { OF_000_READ } else { &named };
-        let own_ends = format!("(ownEnds job{k})");
+        let own_ends = format!("(own_ends job{k})");
         let records: Vec<_> =
             partition.boundaries().iter().map(|b| b.region_pairs.clone()).collect();
         let marks: Vec<u8> = (0..spans.len()).map(|i| u8::from(is_choke(&records, i))).collect();
@@ -528,7 +526,7 @@ impl Job {
         let labels = list(partition.labels(), u32::to_string);
         let carded = equation(
             "cards",
-            &format!("cards (gridOf job{k}) ({labels}) {}", regions.len()),
+            &format!("cards (grid_of job{k}) ({labels}) {}", regions.len()),
             format!("words ({cards})"),
             CARDING,
         );
@@ -537,13 +535,13 @@ impl Job {
             block,
             equation(
                 "labels",
-                &format!("labelsOf eight job{k} {own_ends}"),
+                &format!("labels_of eight job{k} {own_ends}"),
                 labels.clone(),
                 LABELLING,
             ),
             equation(
                 "marks",
-                &format!("marksOf eight job{k}"),
+                &format!("marks_of eight job{k}"),
                 list(marks, |mark| mark.to_string()),
                 MARKING,
             ),
@@ -552,7 +550,7 @@ impl Job {
             equation(
                 "kept",
                 &format!(
-                    "keptOf (rulesOf (limitsIn {named}) eight job{k}) (reduceRun (job{k} .boundaries))"
+                    "kept_of (rules_of (limits_in {named}) eight job{k}) (reduce_run job{k}.boundaries)"
                 ),
                 list(&kept, boundary),
                 &format!("{opened} {READING} {KEEPING}"),
@@ -585,9 +583,9 @@ fn refusals() -> String {
         let bad = format!("bad{k}");
         text += &unfoldable(&bad, block);
         text += &format!(
-            "\nrefused{k} : (job work answer : List ℕ) → reduceResult job {bad} work answer ≡ leftBy 32 0 work answer\n\
+            "\nrefused{k} : (job work answer : List ℕ) → reduce_result job {bad} work answer ≡ left_by 32 0 work answer\n\
              unfolding {bad} {REFUSING}\nrefused{k} job work answer = refl\n\
-             \nrefused-by-list{k} : (job list work answer : List ℕ) → reduceByListResult job list {bad} work answer ≡ leftBy 32 0 work answer\n\
+             \nrefused-by-list{k} : (job list work answer : List ℕ) → reduce_by_list_result job list {bad} work answer ≡ left_by 32 0 work answer\n\
              unfolding {bad} {REFUSING}\nrefused-by-list{k} job list work answer = refl\n"
         );
     }
@@ -600,17 +598,17 @@ fn admissions() -> String {
     for (k, numbers) in admitted().into_iter().enumerate() {
         let good = format!("good{k}");
         let Thresholds { least, most, .. } = numbers;
-        let bits = |value: f64| format!("ofBits binary64 {}", value.to_bits());
+        let bits = |value: f64| format!("of_bits binary64 {}", value.to_bits());
         let [chain, width, geometry] = [numbers.chain, numbers.width, numbers.geometry].map(bits);
         let [duplicate, envelope, cosine] =
             [numbers.duplicate, numbers.envelope, numbers.cosine].map(bits);
         text += &unfoldable(&good, &block(&numbers));
         text += &format!(
-            "\nadmitted{k} : blockFault {good} ≡ false\nunfolding {good} {READING}\nadmitted{k} = refl\n\
-             \nread{k} : limitsIn {good} ≡ record {{ leastSpans = {least}; mostSpans = {most}; chain = {chain}; width = {width}; \
+            "\nadmitted{k} : block_fault {good} ≡ false\nunfolding {good} {READING}\nadmitted{k} = refl\n\
+             \nread{k} : limits_in {good} ≡ record {{ least_spans = {least}; most_spans = {most}; chain = {chain}; width = {width}; \
              geometry = {geometry}; duplicate = {duplicate}; envelope = {envelope}; cosine = {cosine} }}\n\
              unfolding {good} {READING}\nread{k} = refl\n\
-             \nthen{k} : (work answer : List ℕ) → reduceResult [] {good} work answer ≡ leftBy 1 0 work answer\n\
+             \nthen{k} : (work answer : List ℕ) → reduce_result [] {good} work answer ≡ left_by 1 0 work answer\n\
              unfolding {good} {REFUSING}\nthen{k} work answer = refl\n"
         );
     }
