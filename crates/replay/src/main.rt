@@ -10,7 +10,7 @@ mod pieces;
 mod reading;
 mod summary;
 
-ghost use Rattle.std.specs.Prelude.{◌+◌, ◌≤◌, IfOk, length};
+ghost use Rattle.std.specs.Prelude.{◌≡◌, ◌+◌, ◌≤◌, IfOk, length};
 
 use compare::{AT_END, NOT_WHOLE, SAME};
 use std::io;
@@ -57,7 +57,8 @@ fn make_call(
     s: State,
 ) -> io::Result<State>
     requires { (s.job + s.list + s.thresholds ≤ length held.now) × (132 ≤ length counts.old) }
-    ensures { IfOk result (λ next. next.job + next.list + next.thresholds ≤ s.job + s.list + s.thresholds) }
+    ensures next { IfOk result (λ next. next.job + next.list + next.thresholds ≤ s.job + s.list + s.thresholds) }
+    ensures kept { length counts.new ≡ length counts.old }
 {
     let j = s.job;
     let l = j + s.list;
@@ -86,7 +87,8 @@ fn act(
     s: State,
 ) -> io::Result<State>
     requires { (s.job + s.list + s.thresholds ≤ length held.old) × (132 ≤ length counts.old) }
-    ensures { IfOk result (λ next. next.job + next.list + next.thresholds ≤ length held.new) }
+    ensures next { IfOk result (λ next. next.job + next.list + next.thresholds ≤ length held.new) }
+    ensures kept { (length held.new ≡ length held.old) × (length counts.new ≡ length counts.old) }
 {
     if kind == INPUT {
         let i = input::read_input(item, held);
@@ -115,7 +117,9 @@ fn step(
     s: State,
 ) -> io::Result<State>
     requires { (s.job + s.list + s.thresholds ≤ length held.old) × (132 ≤ length counts.old) }
-    ensures { IfOk result (λ next. next.job + next.list + next.thresholds ≤ length held.new) }
+    ensures next { IfOk result (λ next. next.job + next.list + next.thresholds ≤ length held.new) }
+    ensures kept { (length item.new ≡ length item.old) × (length held.new ≡ length held.old)
+        × (length counts.new ≡ length counts.old) }
 {
     let got = reading::read_item(list, item)?;
     if got.state != SAME {
@@ -134,6 +138,8 @@ fn replay(
     counts: &mut [u64],
 ) -> io::Result<()>
     requires { 132 ≤ length counts.old }
+    ensures { (length item.new ≡ length item.old) × (length held.new ≡ length held.old)
+        × (length counts.new ≡ length counts.old) }
 {
     let mut s = State {
         job: 0,

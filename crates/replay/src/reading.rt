@@ -27,7 +27,8 @@ fn failed(state: u32) -> Got
 
 // Reads the next item; its length is at most that of `item`.
 pub fn read_item(input: &mut impl Read, item: &mut [u8]) -> io::Result<Got>
-    ensures { IfOk result (λ got. got.bytes ≤ length item.new) }
+    ensures read { IfOk result (λ got. got.bytes ≤ length item.new) }
+    ensures kept { length item.new ≡ length item.old }
 {
     let mut head = [0u8; 4];
     let got = read_full(input, &mut head)?;
