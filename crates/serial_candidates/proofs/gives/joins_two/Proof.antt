@@ -51,8 +51,8 @@ returns-2 c =
     let after-size2 = after-has-region.before in
     let after-size = after-size2.before in
     let if1-left = after-size.before in
-    joined _ _ _ _ _ (omega (arith, if1-left.if-count-ne2.false)) after-size.size-i.ensures.0 after-size2.size-j.ensures.0 after-has-region.has_region-one.ensures
-    after-has-region2.has_region-other.ensures c.span_at.ensures c.span_at-2.ensures c.centres_differ.ensures
+    joined _ _ _ _ _ (omega (arith, if1-left.if-count-ne2.false)) after-size.size-i.ensures.0 after-size2.size-j.ensures.0
+    after-has-region.has_region-one.ensures after-has-region2.has_region-other.ensures c.span_at.ensures c.span_at-2.ensures c.centres_differ.ensures
 
 pub joins_two_spec : {M : Type 1} → statement M
 joins_two_spec =
