@@ -37,13 +37,14 @@ loop-holds c = let p = c.requires in (omega arith, p.0, p.1, p.2, p.3, words-sta
 
 element-copy-out-write-u32 : tie.Need-bounds-order-to invariant-loop decreases-loop
 element-copy-out-write-u32 c =
-    let valued = c.before in
+    let valued : Valued = search in
     let turn = (turn-of (placed_of valued)).loop-i in
     omega (arith, valued.size-to.ensures.0, turn.invariant.3.below turn.i (omega arith))
 
 write-u32-requires : tie.Need-write_u32-requires invariant-loop decreases-loop
 write-u32-requires c κs =
-    let placed = placed_of c.before.before in
+    let valued : Valued = search in
+    let placed = placed_of valued in
     let turn = (turn-of placed).loop-i in
     omega (arith, placed.size-place.ensures.0, turn.invariant.2.below turn.i (omega arith), turn.invariant.5.long)
 
