@@ -17,7 +17,7 @@ pub struct Counts {
 }
 
 // Where each section starts, and the job's length.
-#[derive(Clone, Copy)]
+#[derive(Clone, Copy, PartialEq, Eq)]
 pub struct Offsets {
     pub cells: u32,
     pub bases: u32,

@@ -2,46 +2,42 @@
 ghost use Rattle.std.specs.Prelude.{◌≡◌};
 ghost use Rattle.format.specs.RampSides.{side_number, end_number, end_in};
 
-#[derive(Clone, Copy)]
+#[derive(Clone, Copy, PartialEq, Eq)]
 pub enum RampSide {
     Lower,
     Upper,
 }
 
 // A side, where 003 has one; no ramp; or a byte that is no ramp end.
-#[derive(Clone, Copy)]
+#[derive(Clone, Copy, PartialEq, Eq)]
 pub enum RampEnd {
     NoRamp,
     At(RampSide),
     Unknown,
 }
 
-impl RampSide {
+impl From<RampSide> for u8 {
+    ghost from_gives = { λ side byte. byte ≡ side_number side };
+
     // The byte that stands for it.
-    pub fn number(self) -> u8
-        ensures { result ≡ side_number self }
-    {
-        match self {
+    fn from(side: RampSide) -> u8 {
+        match side {
             RampSide::Lower => 1,
             RampSide::Upper => 2,
         }
     }
 }
 
-impl RampEnd {
+impl From<u8> for RampEnd {
+    ghost from_gives = { λ byte end. end_number end ≡ end_in byte };
+
     // What a record's byte says.
-    pub fn of(byte: u8) -> RampEnd
-        ensures { end_number result ≡ end_in byte }
-    {
-        if byte == 0 {
-            return RampEnd::NoRamp;
+    fn from(byte: u8) -> RampEnd {
+        match byte {
+            0 => RampEnd::NoRamp,
+            1 => RampEnd::At(RampSide::Lower),
+            2 => RampEnd::At(RampSide::Upper),
+            _ => RampEnd::Unknown,
         }
-        if byte == 1 {
-            return RampEnd::At(RampSide::Lower);
-        }
-        if byte == 2 {
-            return RampEnd::At(RampSide::Upper);
-        }
-        RampEnd::Unknown
     }
 }
