@@ -1,5 +1,5 @@
 // A source looked up among those found before it, and added where it is new.
-ghost use Rattle.std.specs.Prelude.{◌≡◌, ◌+◌, ◌*◌, ◌%◌, ◌≤◌, ◌<◌, length};
+ghost use Rattle.std.specs.Prelude.{◌≡◌, true, false, ◌+◌, ◌*◌, ◌%◌, ◌≤◌, ◌<◌, length, MatchResult};
 ghost use Rattle.answer_firsts.specs.Links.{mix, head_of, Linked, Looked, PlaceAdded, Covers};
 
 use answer_sorting::keys::key_at;
@@ -20,27 +20,14 @@ fn head(x: u64, heads: usize) -> usize
     mixed(x) * heads / 0x4000
 }
 
-// A place as an index.
-fn place(x: u16) -> usize
-    ensures { (result ≡ x) × (result < 0x1_0000) }
-{
-    x as usize
-}
-
+// The last binary digit of a number.
 fn digit(y: u64) -> usize
     ensures { (result ≡ y % 2) × (result < 2) }
 {
     (y % 2) as usize
 }
 
-// Where a source is linked, or is to be; and whether it is.
-#[derive(Clone, Copy)]
-struct Spot {
-    cell: usize,
-    there: bool,
-}
-
-// Looks x up among the sources from number `first` on.
+// Looks x up among the sources from number `first` on: the cell from which it is linked, or as an error that from which it is to be.
 fn look_up(
     job: &[u8],
     base: usize,
@@ -50,30 +37,26 @@ fn look_up(
     count: usize,
     links: &[u16],
     places: &[u16],
-) -> Spot
+) -> Result<usize, usize>
     requires { Linked heads job.now base first count links.now places.now × (0 < heads) }
-    ensures { Looked heads job.now base first count links.now places.now x result.cell result.there }
+    ensures { MatchResult result
+        (λ cell. Looked heads job.now base first count links.now places.now x cell true)
+        (λ cell. Looked heads job.now base first count links.now places.now x cell false) }
 {
     let mut cell = head(x, heads);
     let mut y = x;
-    let mut v = place(links[cell]);
+    let mut v = links[cell] as usize;
     while v > first {
         let k = v - 1;
-        let p = place(places[k]);
+        let p = places[k] as usize;
         if key_at(job, base, p) == x {
-            return Spot {
-                cell: cell,
-                there: true,
-            };
+            return Ok(cell);
         }
         cell = heads + 2 * k + digit(y);
         y /= 2;
-        v = place(links[cell]);
+        v = links[cell] as usize;
     }
-    Spot {
-        cell: cell,
-        there: false,
-    }
+    Err(cell)
 }
 
 // Adds the place p, unless a source from number `first` on is the same: how many numbers there are then.
@@ -93,12 +76,10 @@ pub fn add_place(
         × (base + 8 * p + 8 ≤ length job.now) }
     ensures { PlaceAdded heads job.now base first count p places.old links.new places.new result }
 {
-    let x = key_at(job, base, place(p));
-    let spot = look_up(job, base, x, heads, first, count, links, places);
-    if spot.there {
+    let x = key_at(job, base, p as usize);
+    let Err(cell) = look_up(job, base, x, heads, first, count, links, places) else {
         return count;
-    }
-    let cell = spot.cell;
+    };
     links[cell] = (count + 1) as u16;
     links[heads + 2 * count] = 0;
     links[heads + 2 * count + 1] = 0;
@@ -126,8 +107,7 @@ pub fn add_places(
     ensures { Covers heads job.now base first count from n places.old links.new places.new result }
 {
     let mut found = count;
-    let mut i: usize = 0;
-    while i < n {
+    for i in 0..n {
         found = add_place(
             job,
             base,
@@ -138,7 +118,6 @@ pub fn add_places(
             links,
             places,
         );
-        i += 1;
     }
     found
 }

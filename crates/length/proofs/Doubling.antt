@@ -28,6 +28,9 @@ module _ (r q : ℕ) (low : 2 ^ 26 ≤ r) (high : r < 2 ^ 27) (small : q ≤ 2 *
   pub square-most : half * half ≤ 2 ^ 54
   square-most = omega (arith, mul-le-mul half-most half-most)
 
+  pub halved : (left < r * 2) × (half ≤ 2 ^ 27) × (half * half ≤ 2 ^ 54)
+  halved = (left_less, half-most, square-most)
+
   -- the division leaves enough for the square of the second half
   pub enough : half * half ≤ left * 0x800_0000 → DoubledDigits r q (r * 0x800_0000 + half) (left * 0x800_0000 - half * half)
   enough h = record {

@@ -1,4 +1,5 @@
-// What Rust has as methods of f64, written out: the magnitude, the lesser, the greater, and the total order of bit patterns.
+// The magnitude, the lesser, the greater, and the total order of bit patterns.
+// Written out, not std's methods: at a NaN or at both zeros those answer otherwise, and total_cmp takes no NaN.
 ghost use Rattle.std.specs.Prelude.{◌≡◌};
 ghost use Rattle.length.specs.Floats.{abs_of, min_of, max_of};
 ghost use Rattle.length.specs.Total.{total_key, total_le};

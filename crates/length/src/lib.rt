@@ -7,14 +7,14 @@ ghost use Rattle.length.specs.Length.{length_at};
 
 pub mod floats;
 
-// A whole square root and what is left over.
+// A whole square root and what is left over: two numbers, each with a name of its own.
 #[derive(Clone, Copy)]
 pub struct Root {
     pub root: u64,
     pub rem: u64,
 }
 
-// A length, and whether it is √d ÷ 2 itself and not only the f64 nearest to it.
+// A length, and whether it is √d ÷ 2 itself and not only the f64 nearest to it. No Option: a length that is not exact is one too.
 #[derive(Clone, Copy)]
 pub struct Length {
     pub value: f64,
@@ -70,9 +70,7 @@ pub fn root_of(n: u64) -> Root
     ensures { result ≡ root_of n }
 {
     let mut r = Root { root: 0, rem: 0 };
-    let mut i = 18u32;
-    while 0 < i {
-        i -= 1;
+    for i in (0u32..18).rev() {
         r = digit(r, (n >> (2 * i)) % 4);
     }
     r

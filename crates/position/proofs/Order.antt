@@ -6,9 +6,22 @@ use native.Mathlib.Omega.{arith}
 use mathlib.Core.Logic.{◌⊎◌, inl, inr, ⊎_elim}
 use borrow.Author.Tests.{ltb-true, ltb-false, leb-true, leb-false, lt-ltb, le-ltb, le-leb, eqb-true}
 use lib.Dec.{leb, ltb, eqb}
+use Rattle.std.specs.Ordering.{is_le, is_some_and, partial_ordering_then, nat_cmp, partial_le}
+use Rattle.std.specs.Prelude.{Some}
+use Rattle.position.specs.contracts.PixelPositionPartialOrd.TheImpl.{partial_cmp-value}
+use Rattle.std.proofs.lemmas.Bool.Decides.{nat_tests}
 use Rattle.position.specs.Order.{pos_le, pos_same, swapped, canonical}
 use Rattle.position.specs.declared.PixelPosition.{PixelPosition}
 use Rattle.position.specs.declared.Span.{Span}
+
+by_both : (x y u v : ℕ)
+    → is_some_and is_le (partial_ordering_then (Some (nat_cmp x u)) (Some (nat_cmp y v))) ≡ cond (ltb x u) true (cond (ltb u x) false (leb y v))
+by_both x y u v = grind (arith, nat_tests)
+
+-- The derived order is the one by column, then by row.
+pub le_by_fields : (p q : PixelPosition) → partial_le partial_cmp-value.it p q ≡ pos_le p q
+unfolding pos_le
+le_by_fields p q = by_both p.x p.y q.x q.y
 
 -- What the order means in numbers.
 abbrev pub Before : PixelPosition → PixelPosition → Type 0

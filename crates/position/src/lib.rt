@@ -4,7 +4,8 @@
 ghost use Rattle.std.specs.Prelude.{◌≡◌};
 ghost use Rattle.position.specs.Order.{pos_le, pos_same, canonical};
 
-#[derive(Clone, Copy)]
+// In order by column, then by row.
+#[derive(Clone, Copy, PartialEq, Eq, PartialOrd, Ord)]
 pub struct PixelPosition {
     pub x: u32,
     pub y: u32,
@@ -25,33 +26,18 @@ pub struct Span {
 
 impl PixelPosition {
     // No later than the other: by column, then by row.
+    #[tactic(auto, using(crate::proofs::Order::le_by_fields, std::proofs::lemmas::Bool::Decides::nat_tests), unfolding(crate::specs::Order::pos_le))]
     pub fn le(self, other: PixelPosition) -> bool
         ensures { result ≡ pos_le self other }
     {
-        let x = self.x;
-        let y = self.y;
-        let u = other.x;
-        let v = other.y;
-        if x < u {
-            return true;
-        }
-        if u < x {
-            return false;
-        }
-        y <= v
+        self <= other
     }
 
+    #[tactic(auto, unfolding(crate::specs::Order::pos_same))]
     pub fn same(self, other: PixelPosition) -> bool
         ensures { result ≡ pos_same self other }
     {
-        let x = self.x;
-        let y = self.y;
-        let u = other.x;
-        let v = other.y;
-        if x == u {
-            return y == v;
-        }
-        false
+        self == other
     }
 }
 
@@ -60,21 +46,21 @@ impl Span {
     pub fn canonical(self) -> Span
         ensures { result ≡ canonical self }
     {
-        let a = self.a;
-        let b = self.b;
-        if a.le(b) {
-            Span { a, b }
+        if self.a <= self.b {
+            self
         } else {
-            Span { a: b, b: a }
+            Span {
+                a: self.b,
+                b: self.a,
+            }
         }
     }
 
     // The two ends are one position.
+    #[tactic(auto, unfolding(crate::specs::Order::pos_same))]
     pub fn coincides(self) -> bool
         ensures { result ≡ pos_same self.a self.b }
     {
-        let a = self.a;
-        let b = self.b;
-        a.same(b)
+        self.a == self.b
     }
 }
