@@ -8,7 +8,6 @@ ghost use Rattle.answer_gathering.specs.Room.{OwnRoom, OwnsRoom};
 use crate::casts::counted;
 use answer_firsts::finding::add_places;
 use format::{BOUNDARY_SIZE, read_boundary};
-use wire::size;
 
 // The own sources of rank j, if it goes into rank i: those of a kind without a number from `first` on get the next numbers.
 fn add_own(
@@ -34,17 +33,17 @@ fn add_own(
     ensures { FirstsBy job.now at from base order.now plan.now starts.now heads first i (j + 1) result
         owned.old links.new owned.new }
 {
-    if size(plan[j]) != i {
+    if plan[j] as usize != i {
         return count;
     }
-    let b = size(order[j]);
-    let p = size(starts[base + b]);
+    let b = order[j] as usize;
+    let p = starts[base + b] as usize;
     let x = read_boundary(job, at + b * BOUNDARY_SIZE);
     add_places(
         job,
         from,
         p,
-        size(x.sources),
+        x.sources as usize,
         heads,
         first,
         count,
@@ -76,12 +75,10 @@ fn add_owns(
         owned.old links.new owned.new }
 {
     let mut count = first;
-    let mut j: usize = 0;
-    while j < n {
+    for j in 0..n {
         count = add_own(
             job, at, from, order, plan, n, j, i, base, starts, heads, first, count, links, owned,
         );
-        j += 1;
     }
     count
 }
@@ -110,7 +107,7 @@ fn own_rank(
     ensures { OwnsBy job.now at from base order.now plan.now starts.now heads n (i + 1)
         (k + cond (eqb (get_or plan.now i 0) i) 1 0) result kept.new owns.new links.new owned.new }
 {
-    if size(plan[i]) != i {
+    if plan[i] as usize != i {
         return a;
     }
     let r = add_owns(
@@ -144,13 +141,11 @@ pub fn gather_owns(
 {
     let mut k: usize = 0;
     let mut end: usize = 0;
-    let mut i: usize = 0;
-    while i < n {
+    for i in 0..n {
         end = own_rank(
             job, at, from, order, plan, n, i, base, starts, heads, links, kept, owns, owned, k, end,
         );
         k += counted(plan[i], i);
-        i += 1;
     }
     k
 }

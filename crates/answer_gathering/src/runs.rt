@@ -8,10 +8,8 @@ pub fn append_places(p: usize, m: usize, seen: &mut [u32], to: usize) -> usize
     requires { (p + m ≤ 1280) × (to + m ≤ length seen.old) }
     ensures { Appended seen.old to (up_from p m) seen.new result }
 {
-    let mut k: usize = 0;
-    while k < m {
+    for k in 0..m {
         seen[to + k] = (p + k) as u32;
-        k += 1;
     }
     to + m
 }

@@ -9,7 +9,6 @@ use crate::casts::counted;
 use crate::runs::append_places;
 use format::{BOUNDARY_SIZE, read_boundary};
 use places::places::sort_places;
-use wire::size;
 
 // The places of the m observations of the boundary at place b, the first at p: itself where it stands as one.
 fn add_seen_places(
@@ -52,16 +51,16 @@ fn add_seen(
         (length (going plan.now n i)) j)
         []) seen.new result }
 {
-    if size(plan[j]) != i {
+    if plan[j] as usize != i {
         return to;
     }
-    let b = size(order[j]);
+    let b = order[j] as usize;
     let x = read_boundary(job, at + b * BOUNDARY_SIZE);
     add_seen_places(
         base,
         b,
-        size(firsts[b]),
-        size(x.observations),
+        firsts[b] as usize,
+        x.observations as usize,
         stands[b],
         seen,
         to,
@@ -90,12 +89,10 @@ fn add_seens(
         seen.new result × (result ≤ from + sum_below (into plan.now (seen_weight order.now (seen_count job.now at)) i) n) }
 {
     let mut to = from;
-    let mut j: usize = 0;
-    while j < n {
+    for j in 0..n {
         to = add_seen(
             job, at, order, plan, n, j, i, base, stands, firsts, seen, to,
         );
-        j += 1;
     }
     to
 }
@@ -166,7 +163,7 @@ fn seen_rank(
         starts.now counts.now keys.now (seen_count job.now at) n (i + 1)
         (k + cond (eqb (get_or plan.now i 0) i) 1 0) result seens.new seen.new }
 {
-    if size(plan[i]) != i {
+    if plan[i] as usize != i {
         return a;
     }
     let r = gather_seen(
@@ -205,14 +202,12 @@ pub fn gather_seens(
 {
     let mut k: usize = 0;
     let mut a: usize = 0;
-    let mut i: usize = 0;
-    while i < n {
+    for i in 0..n {
         a = seen_rank(
             job, at, order, plan, n, i, base, stands, firsts, first, second, third, starts, counts,
             keys, seens, seen, spare, k, a,
         );
         k += counted(plan[i], i);
-        i += 1;
     }
     k
 }

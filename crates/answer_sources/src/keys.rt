@@ -8,18 +8,15 @@ ghost use Rattle.answer_sources.specs.Squeezed.{KeysRoom, KeysRead};
 
 use crate::casts::packed;
 use format::{SOURCE_SIZE, read_source};
-use wire::size;
 
 // The n sources from place a on, at their places.
 fn read_part(job: &[u8], from: usize, a: usize, n: usize, keys: &mut [u64])
     requires { (from + (a + n) * source_size ≤ length job.now) × (a + n ≤ length keys.old) }
     ensures { keys.new ≡ splice keys.old a (packed (source_records job.now (from + a * source_size) n)) }
 {
-    let mut i: usize = 0;
-    while i < n {
+    for i in 0..n {
         let s = read_source(job, from + (a + i) * SOURCE_SIZE);
         keys[a + i] = packed(s.from, s.to);
-        i += 1;
     }
 }
 
@@ -35,9 +32,7 @@ pub fn read_keys(
     requires { KeysRoom job.now from n keys.old starts.now counts.now }
     ensures { KeysRead job.now from n starts.now counts.now keys.old keys.new }
 {
-    let mut q: usize = 0;
-    while q < n {
-        read_part(job, from, size(starts[q]), size(counts[q]), keys);
-        q += 1;
+    for q in 0..n {
+        read_part(job, from, starts[q] as usize, counts[q] as usize, keys);
     }
 }

@@ -3,7 +3,6 @@ ghost use Rattle.std.specs.Prelude.{◌≡◌, cond, ◌+◌, ◌*◌, ◌≤◌
 ghost use Rattle.answer_sources.specs.Laying.{own_count, seen_count, cited_count, LayRoom, Lays, Countable, PlanRoom, LaidAll};
 
 use format::{BOUNDARY_SIZE, OBSERVATION_SIZE, read_boundary, read_observation};
-use wire::size;
 
 // The sources of the n observations from place p on, from `run` on: where they end.
 fn lay_observations(
@@ -19,14 +18,12 @@ fn lay_observations(
     ensures { Lays (cited_count job.now at) p n run starts.old counts.old starts.new counts.new result }
 {
     let mut r = run;
-    let mut i: usize = 0;
-    while i < n {
+    for i in 0..n {
         let o = read_observation(job, at + (p + i) * OBSERVATION_SIZE);
         let v = o.sources;
         starts[p + i] = r;
         counts[p + i] = v;
         r += v;
-        i += 1;
     }
     r
 }
@@ -60,16 +57,14 @@ pub fn lay_boundaries(
 {
     let mut run: u32 = 0;
     let mut p: usize = 0;
-    let mut b: usize = 0;
-    while b < n {
+    for b in 0..n {
         let x = read_boundary(job, at + b * BOUNDARY_SIZE);
         let own = x.sources;
-        let seen = size(x.observations);
+        let seen = x.observations as usize;
         firsts[b] = p as u32;
         starts[base + b] = run;
         counts[base + b] = stood_with(own, stands[b]);
         run = lay_observations(job, ats, p, seen, run + own, starts, counts);
         p += seen;
-        b += 1;
     }
 }

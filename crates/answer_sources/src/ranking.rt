@@ -44,12 +44,10 @@ pub fn rank_observations(
         (λ k. (observation_at job.now (at + k * observation_size)).bits) 0 n first.old second.old third.old
         first.new second.new third.new }
 {
-    let mut p: usize = 0;
-    while p < n {
+    for p in 0..n {
         let o = read_observation(job, at + p * OBSERVATION_SIZE);
         let ends = o.ends;
         rank_one(ends, o.bits, p, first, second, third);
-        p += 1;
     }
 }
 
@@ -68,11 +66,9 @@ pub fn rank_boundaries(
         (λ k. (boundary_at job.now (at + k * boundary_size)).bits) base n first.old second.old third.old
         first.new second.new third.new }
 {
-    let mut p: usize = 0;
-    while p < n {
+    for p in 0..n {
         let x = read_boundary(job, at + p * BOUNDARY_SIZE);
         let ends = x.ends;
         rank_one(ends, x.bits, base + p, first, second, third);
-        p += 1;
     }
 }

@@ -6,7 +6,6 @@ ghost use Rattle.answer_sources.specs.Gathered.{PlacesOrder};
 ghost use Rattle.answer_sources.specs.Standing.{Sizes, Standing};
 
 use format::{BOUNDARY_SIZE, read_boundary};
-use wire::size;
 
 // One more that goes into rank i.
 fn count_one(sizes: &mut [u32; 256], i: usize)
@@ -25,10 +24,8 @@ fn count_into(plan: &[u32; 256], n: usize, sizes: &mut [u32; 256])
     requires { (n ≤ 256) × (sizes.old ≡ replicate 256 0) }
     ensures { Sizes plan.now n sizes.new }
 {
-    let mut j: usize = 0;
-    while j < n {
-        count_one(sizes, size(plan[j]));
-        j += 1;
+    for j in 0..n {
+        count_one(sizes, plan[j] as usize);
     }
 }
 
@@ -73,9 +70,7 @@ pub fn mark_standing(
 {
     let mut sizes = [0u32; 256];
     count_into(plan, n, &mut sizes);
-    let mut j: usize = 0;
-    while j < n {
-        mark_one(job, at, size(order[j]), size(plan[j]), &sizes, stands);
-        j += 1;
+    for j in 0..n {
+        mark_one(job, at, order[j] as usize, plan[j] as usize, &sizes, stands);
     }
 }
