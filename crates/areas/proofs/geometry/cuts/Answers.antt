@@ -2,9 +2,7 @@ use mathlib.Core.Path.{◌≡◌, refl, ◌∙◌}
 use mathlib.Core.Bool.{Bool, xor, beq, true, false, ◌&&◌}
 use Rattle.order.proofs.Bools.{clash}
 use Rattle.areas.specs.Cuts.{cuts}
-use borrow.Author.Rules.{rules}
-use Rattle.areas.proofs.geometry.cuts.Statement.{statement}
-use Rattle.areas.proofs.geometry.cuts.Tie as tie
+use Rattle.areas.proofs.geometry.cuts.Goals as goal
 
 alike : (p q m : Bool) → beq p q ≡ true → false ≡ xor p q && m
 unfolding xor
@@ -28,14 +26,11 @@ module _ {p q s t : Bool} (h : p ≡ s) (k : q ≡ t) (m : Bool) where
   apart : beq p q ≡ false → {r : Bool} → r ≡ m → r ≡ xor s t && m
   apart e z = rw (← h, ← k) (z ∙ unlike p q m e)
 
-returns : tie.Need-returns-then-side
+pub returns-then-side : goal.returns-then-side
 unfolding cuts
-returns c = same c.side.ensures c.side-2.ensures _ c.if-side.true
+returns-then-side c = same c.side.ensures c.side-2.ensures _ c.if-side.true
 
-returns-2 : tie.Need-returns
+pub returns : goal.returns
 unfolding cuts
-returns-2 c =
+returns c =
     apart c.side.ensures c.side-2.ensures _ c.if-side.false c.segments_intersect.ensures
-
-pub cuts_spec : {M : Type 1} → statement M
-cuts_spec = tie.close (tie.spec (search rules) (search rules) returns (search rules) returns-2)
