@@ -82,6 +82,9 @@ module _ {w h : ℕ} {s : Span} (d : Sides w h) (f : SpanFits w h s) where
   unfolding line_of
   line-fits = line-cases (tall s) (leb s.a.y s.b.y) refl refl
 
+  pub line-kept : {n : Line} → n ≡ line_of s → LineFits n
+  line-kept e = rw e line-fits
+
 -- the cells in the strip are those in its ranges
 pub in_within : (g : Grid) (s : Span) (i : ℕ) → InStrip g s i → StripHolds g s i
 unfolding strip_axis strip_minor major_of minor_of line_of

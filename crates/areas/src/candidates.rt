@@ -1,9 +1,9 @@
 // The strip of cells around a span in which the steps that it cuts are looked for.
 ghost use Rattle.std.specs.Prelude.{◌≡◌, cond, ◌+◌, ◌<◌, ◌≤◌};
 ghost use Rattle.areas.specs.Spans.{SpanFits, Sides};
-ghost use Rattle.areas.specs.Strip.{centred, axis_range, minor_range, clamp, line_at, gap, tall, line_of, strip_axis, strip_minor};
+ghost use Rattle.areas.specs.Strip.{centred, axis_range, minor_range, clamp, line_at, tall, line_of, strip_axis, strip_minor};
 
-use super::geometry::{max, min, product};
+use super::geometry::product;
 use position::Span;
 
 const PIXELS_PER_WALK_CELL: u32 = 8;
@@ -36,7 +36,7 @@ fn centred(low: u32, high: u32, limit: u32) -> CellRange
 {
     CellRange {
         first: (low + 3) / PIXELS_PER_WALK_CELL,
-        last: min((high - 4) / PIXELS_PER_WALK_CELL, limit - 1),
+        last: ((high - 4) / PIXELS_PER_WALK_CELL).min(limit - 1),
     }
 }
 
@@ -45,7 +45,7 @@ pub fn candidate_axis_range(minimum: u32, maximum: u32, limit: u32) -> CellRange
     requires { (maximum ≤ 8192) × (0 < limit) }
     ensures { result ≡ axis_range minimum maximum limit }
 {
-    centred(max(minimum, REACH) - REACH, maximum + REACH, limit)
+    centred(minimum.saturating_sub(REACH), maximum + REACH, limit)
 }
 
 // The rows or columns about a pixel.
@@ -53,7 +53,7 @@ pub fn candidate_minor_range(reference: u32, limit: u32) -> CellRange
     requires { (reference ≤ 8192) × (0 < limit) }
     ensures { result ≡ minor_range reference limit }
 {
-    centred(max(reference, SPREAD) - SPREAD, reference + SPREAD, limit)
+    centred(reference.saturating_sub(SPREAD), reference + SPREAD, limit)
 }
 
 // The pixel of the range that is nearest to v.
@@ -61,7 +61,7 @@ pub fn clamp(v: u32, low: u32, high: u32) -> u32
     requires { low ≤ high }
     ensures { (result ≡ clamp v low high) × (low ≤ result) × (result ≤ high) }
 {
-    max(low, min(v, high))
+    v.clamp(low, high)
 }
 
 // The line from (l, lm) to (u, um) at v, rounded down.
@@ -72,20 +72,13 @@ pub fn line_at(l: u32, lm: u32, u: u32, um: u32, v: u32) -> u32
     (product(lm, u - v) + product(um, v - l)) / (u - l)
 }
 
-// How far apart.
-fn gap(m: u32, n: u32) -> u32
-    ensures { result ≡ gap m n }
-{
-    if m < n { n - m } else { m - n }
-}
-
 // The span is longer along the rows than along the columns.
 pub fn is_tall(span: Span) -> bool
     ensures { result ≡ tall span }
 {
     let a = span.a;
     let b = span.b;
-    gap(a.x, b.x) < gap(a.y, b.y)
+    a.x.abs_diff(b.x) < a.y.abs_diff(b.y)
 }
 
 fn line_of(span: Span) -> Line

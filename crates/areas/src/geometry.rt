@@ -20,13 +20,13 @@ pub fn product(a: u32, b: u32) -> u32
 pub fn min(a: u32, b: u32) -> u32
     ensures { result ≡ min a b }
 {
-    if a < b { a } else { b }
+    a.min(b)
 }
 
 pub fn max(a: u32, b: u32) -> u32
     ensures { result ≡ max a b }
 {
-    if a < b { b } else { a }
+    a.max(b)
 }
 
 fn cross_plus(a: PixelPosition, b: PixelPosition, point: PixelPosition) -> u32
@@ -59,7 +59,7 @@ fn above(a: PixelPosition, b: PixelPosition, point: PixelPosition) -> bool
     cross_minus(a, b, point) < cross_plus(a, b, point)
 }
 
-// Strictly on the negative side.
+// Strictly on the negative side. A function beside `above`, for with the ends exchanged there it would not say which side.
 fn below(a: PixelPosition, b: PixelPosition, point: PixelPosition) -> bool
     requires { Bounded a × Bounded b × Bounded point }
     ensures { result ≡ below a b point }
@@ -83,8 +83,8 @@ fn on_segment(a: PixelPosition, b: PixelPosition, point: PixelPosition) -> bool
     let x = point.x;
     let y = point.y;
     (cross_plus(a, b, point) == cross_minus(a, b, point))
-        & (((min(a.x, b.x) <= x) & (x <= max(a.x, b.x)))
-            & ((min(a.y, b.y) <= y) & (y <= max(a.y, b.y))))
+        & (((a.x.min(b.x) <= x) & (x <= a.x.max(b.x)))
+            & ((a.y.min(b.y) <= y) & (y <= a.y.max(b.y))))
 }
 
 // The closed segments from a to b and from c to d have a common point.

@@ -1,5 +1,5 @@
 -- The bytes of a map while a span is taken into account, cell after cell.
-use mathlib.Core.Path.{◌≡◌, sym, ◌∙◌, ap, ap₂, subst₂}
+use mathlib.Core.Path.{◌≡◌, refl, sym, ◌∙◌, ap, ap₂, subst₂}
 use mathlib.Core.Logic.{by_cases}
 use mathlib.Core.Bool.{Bool, true, false, cond}
 use mathlib.Core.List.{List, [], ◌∷◌, ◌++◌}
@@ -12,16 +12,18 @@ use lib.Seq.{get_or-set_same, get_or-set_other}
 use Rattle.order.proofs.Bools.{by-test}
 use Rattle.position.specs.Order.{pos_le}
 use Rattle.position.specs.declared.Span.{Span}
+use Rattle.position.specs.declared.WalkPosition.{WalkPosition}
 use Rattle.grid.specs.Cells.{Grid, Whole, size, index_of, column_of, row_of}
-use Rattle.grid.specs.Steps.{leads_on}
+use Rattle.grid.specs.Steps.{leads_on, neighbour, column_to, row_to}
 use Rattle.grid.proofs.Index.{index-split, column-of, row-of, column-in, row_in}
-use Rattle.grid.proofs.Steps.{Leads, leads-means}
+use Rattle.grid.proofs.Steps.{Leads, leads-means, neighbour-column, neighbour-row}
 use Rattle.grid.proofs.Reach.{grid_of}
 use Rattle.position.specs.Bounds.{Bounded}
 use Rattle.areas.specs.Open.{open_byte}
 use Rattle.areas.specs.Spans.{Sides, SpanFits}
 use Rattle.areas.specs.Strip.{InRange, InStrip, tall, major_of, minor_of, strip_axis, strip_minor}
-use Rattle.areas.proofs.StripCells.{in_within}
+use Rattle.areas.specs.declared.candidates.CellRange.{CellRange}
+use Rattle.areas.proofs.StripCells.{in_within, axis-on, minor-on}
 use Rattle.areas_steps.specs.Marks.{MapOf, WorkHolds, rank_at, rank, Half}
 use Rattle.areas_steps.proofs.Bits.{byte-off}
 
@@ -139,6 +141,17 @@ module _ {g : Grid} {w h : ℕ} (m : MapOf w h g) (sides : Sides w h) (s : Span)
       let t : ((strip_minor w h s c).first ≤ minor_of g s i) × (minor_of g s i ≤ (strip_minor w h s c).last) = rw e at p in
       omega arith
 
+pub limit-small : {w h : ℕ} → Sides w h → (t : Bool) → (cond t h w ≤ 1024) × (cond t w h ≤ 1024)
+limit-small d true = (d.high, d.wide)
+limit-small d false = (d.wide, d.high)
+
+-- the cells along the span and beside it are on the map, whose sides are at most 1,024
+pub axis-last : {w h : ℕ} (s : Span) {r : CellRange} → Sides w h → r ≡ strip_axis w h s → (r.last < cond (tall s) h w) × (cond (tall s) h w ≤ 1024)
+axis-last s d e = (omega (arith, ap (λ (r : CellRange). r.last) e, axis-on d s), (limit-small d (tall s)).0)
+
+pub minor-last : {w h : ℕ} (s : Span) (c : ℕ) {r : CellRange} → Sides w h → r ≡ strip_minor w h s c → (r.last < cond (tall s) w h) × (cond (tall s) w h ≤ 1024)
+minor-last s c d e = (omega (arith, ap (λ (r : CellRange). r.last) e, minor-on d s c), (limit-small d (tall s)).1)
+
 -- a place of a map
 pub place_in : (w h x y : ℕ) → x < w → y < h → y * w + x < w * h
 place_in w h x y l k = omega (arith, mul-le-mul_right {m = y + 1} {n = h} w (omega arith))
@@ -165,6 +178,18 @@ leads-at w h x y d l e = go (leads-means (grid_of w h []) (y * w + x) d e) (colu
         × (x + d % 3 ≤ w) × (0 < y + d / 3) × (y + d / 3 ≤ h)
     go m p q = (omega arith, omega arith, omega arith, omega arith)
 
+pub leads-near : {w h : ℕ} {p : WalkPosition} (d : ℕ) {r : Bool} → p.x < w
+    → ((g : Grid) (i : ℕ) → g.width ≡ w → g.height ≡ h → column_of g i ≡ p.x → row_of g i ≡ p.y → r ≡ leads_on g i d) → r ≡ true
+    → (0 < p.x + d % 3) × (p.x + d % 3 ≤ w) × (0 < p.y + d / 3) × (p.y + d / 3 ≤ h)
+leads-near {w} {h} {p} d l told e =
+    let g = grid_of w h [] in
+    leads-at w h p.x p.y d l (sym (told g _ refl refl (column-of g p.x p.y l) (row-of g p.x p.y l)) ∙ e)
+
+-- the cell that it leads to
+pub beyond-told : (g : Grid) (i d : ℕ) {p : WalkPosition} → leads_on g i d ≡ true → (p.x ≡ column_to g i d) × (p.y ≡ row_to g i d)
+    → (column_of g (neighbour g i d) ≡ p.x) × (row_of g (neighbour g i d) ≡ p.y)
+beyond-told g i d l to = let n = leads-means g i d l in (neighbour-column g i d n ∙ sym to.0, neighbour-row g i d n ∙ sym to.1)
+
 -- the ends of a span on the map
 pub ends-bounded : {w h : ℕ} {s : Span} → Sides w h → SpanFits w h s → Bounded s.a × Bounded s.b
 ends-bounded d f = (record { column = omega arith; row = omega arith }, record { column = omega arith; row = omega arith })
@@ -185,7 +210,3 @@ rank-place s t c cm x y et ex ey = rw (← et) (go t ex ey)
 pub half_at : {base : ℕ} {g : Grid} {dirs : List ℕ} {ss : List Span} {s : Span} {k : ℕ} {before work : List ℕ} (m : ℕ) → k ≡ m
     → Half base g dirs ss s k before work → Half base g dirs ss s m before work
 half_at m e h = rw (← e) h
-
-pub limit-small : {w h : ℕ} → Sides w h → (t : Bool) → (cond t h w ≤ 1024) × (cond t w h ≤ 1024)
-limit-small d true = (d.high, d.wide)
-limit-small d false = (d.wide, d.high)

@@ -81,11 +81,8 @@ fn close_line(span: Span, width: u32, height: u32, c: u32, work: &mut [u8], base
 {
     let tall = is_tall(span);
     let range = strip_minor(span, width, height, c);
-    let last = range.last;
-    let mut cm = range.first;
-    while cm <= last {
+    for cm in range.first..range.last + 1 {
         close_cell(span, width, height, place_at(tall, c, cm), work, base);
-        cm += 1;
     }
 }
 
@@ -97,10 +94,7 @@ pub fn close_cut(span: Span, width: u32, height: u32, work: &mut [u8], base: usi
         → WorkHolds base (size g) (open_byte dirs g (ss ++ (span ∷ []))) before work.new }
 {
     let range = strip_axis(span, width, height);
-    let last = range.last;
-    let mut c = range.first;
-    while c <= last {
+    for c in range.first..range.last + 1 {
         close_line(span, width, height, c, work, base);
-        c += 1;
     }
 }

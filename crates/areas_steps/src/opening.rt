@@ -73,12 +73,10 @@ fn open_row(
         work.old → WorkHolds base ((y + 1) * width)
         (open_byte (directions_of directions) (record { width = width; height = height; cells = cells.now }) []) before work.new }
 {
-    let mut x: u32 = 0;
-    while x < width {
+    for x in 0..width {
         let position = WalkPosition { x, y };
         let i = byte_of(width, position, base);
         work[i] = open_byte(cells, width, height, directions, position);
-        x += 1;
     }
 }
 
@@ -96,9 +94,7 @@ pub fn open_steps(
         (rows (length cells.now)
         (open_byte (directions_of directions) (record { width = width; height = height; cells = cells.now }) [])) }
 {
-    let mut y: u32 = 0;
-    while y < height {
+    for y in 0..height {
         open_row(cells, width, height, directions, y, work, base);
-        y += 1;
     }
 }

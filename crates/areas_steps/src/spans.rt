@@ -29,9 +29,7 @@ pub fn mark_spans(
         (spans_in ends.now count))) }
 {
     open_steps(cells, width, height, directions, work, base);
-    let mut k: usize = 0;
-    while k < count {
+    for k in 0..count {
         close_cut(span_at(ends, k), width, height, work, base);
-        k += 1;
     }
 }

@@ -24,12 +24,6 @@ use Rattle.context.specs.Anchors.{optional, anchors_of, is_anchored}
 use Rattle.context.specs.Held.{is_none}
 use Rattle.context.specs.AnchorLoop.{Hit, anchors_in, anchor_labels, LabelAdded, LabelsRead}
 
-pub mul-as : {a b y w : ℕ} → a ≡ y → b ≡ w → a * b ≡ y * w
-mul-as e f = rw (e, f)
-
-pub hit-as : {b d : BaseRecord} {width n : ℕ} → b ≡ d → Hit d.anchor width n → Hit b.anchor width n
-hit-as e h = rw e h
-
 -- no label is added where there is no anchor
 pub none-added : {width : ℕ} {ls : List ℕ} {p : WalkPosition} {anchors : List ℕ} {found : ℕ} → is_none p ≡ true
     → LabelAdded width ls p anchors found anchors found

@@ -4,9 +4,10 @@ use mathlib.Core.Bool.{Bool, true, false, cond, ◌||◌}
 use mathlib.Core.List.{List, [], ◌∷◌, ◌++◌, map, map-append, append-nil}
 use Prim.Native.Nat.{ℕ, zero, suc, ◌+◌, ◌<◌, ◌≤◌, min, max}
 use native.Mathlib.Omega.{arith}
-use borrow.Author.Tests.{lt-ltb, eq-eqb, ne_eqb}
+use borrow.Author.Tests.{lt-ltb, ne_eqb}
 use lib.Dec.{ltb, eqb}
 use lib.ListN.{length, length-append, length-map}
+use Rattle.std.specs.Int.{from_bool}
 use Rattle.order.specs.Lists.{keep, up_from}
 use Rattle.order.proofs.Keep.{keep_append, keep-length}
 use Rattle.order.proofs.Numbers.{up-length, up-last}
@@ -16,14 +17,10 @@ use Rattle.context.specs.Extremes.{least, greatest}
 use Rattle.context.specs.RegionStats.{left_of, top_of, region_cells, region_stats}
 use Rattle.context.specs.Held.{CellRoom, one, lesser, stats_with_cell, stats_after, stats_in, first_cells}
 
-pub lesser-first : {n y : ℕ} (x : ℕ) → n ≡ 0 → y ≡ lesser n x y
-lesser-first {n} x e = let h = eq-eqb n 0 e in rw h
-
-pub lesser-low : {n x y : ℕ} → (n ≡ 0 → ⊥) → x < y → x ≡ lesser n x y
-lesser-low {n} q l = let h = ne_eqb n 0 q in rw h (omega arith)
-
-pub lesser-high : {n x y : ℕ} → (n ≡ 0 → ⊥) → y ≤ x → y ≡ lesser n x y
-lesser-high {n} q l = let h = ne_eqb n 0 q in rw h (omega arith)
+-- a number of a flag
+pub one-from : (t : Bool) → from_bool t ≡ one t
+one-from true = refl
+one-from false = refl
 
 lesser-more : (n x y : ℕ) → lesser (suc n) x y ≡ min x y
 lesser-more n x y = let h = ne_eqb (suc n) 0 (λ e. omega arith) in rw h

@@ -6,7 +6,7 @@ ghost use Rattle.context.specs.AnchorLoop.{MapLabels, Hit, AnchorsOnMap, LabelAd
 
 use format::{BASE_SIZE, NO_ANCHOR, read_base};
 use position::WalkPosition;
-use wire::{read_u32, size};
+use wire::read_u32;
 
 // Adds the label of the anchor's cell, if there is an anchor. Gives how many labels there are then.
 fn add_label(
@@ -25,7 +25,7 @@ fn add_label(
     if (x == NO_ANCHOR) & (y == NO_ANCHOR) {
         return found;
     }
-    let i = size(y) * size(width) + size(x);
+    let i = y as usize * width as usize + x as usize;
     anchors[found] = read_u32(labels, 4 * i);
     found + 1
 }
@@ -44,11 +44,9 @@ pub fn anchor_labels(
     ensures { LabelsRead job.now at count width (labels_in labels.now n) anchors.new result }
 {
     let mut found: usize = 0;
-    let mut i: usize = 0;
-    while i < count {
+    for i in 0..count {
         let b = read_base(job, at + i * BASE_SIZE);
         found = add_label(labels, n, width, b.anchor, found, anchors);
-        i += 1;
     }
     found
 }
@@ -58,10 +56,8 @@ pub fn is_anchored(anchors: &[u32], region: u32) -> bool
     ensures { result ≡ has region anchors.now }
 {
     let mut found = false;
-    let mut i: usize = 0;
-    while i < anchors.len() {
-        found = (region == anchors[i]) | found;
-        i += 1;
+    for anchor in anchors {
+        found = (region == *anchor) | found;
     }
     found
 }

@@ -1,8 +1,8 @@
 // Statistics of regions: 001's `RegionStats`.
-ghost use Rattle.std.specs.Prelude.{◌≡◌, cond, ℕ, ◌+◌, ◌*◌, ◌/◌, ◌%◌, ◌<◌, ◌≤◌, max, length};
+ghost use Rattle.std.specs.Prelude.{◌≡◌, cond, ℕ, ◌+◌, ◌*◌, ◌/◌, ◌%◌, ◌<◌, ◌≤◌, length};
 ghost use Rattle.areas.specs.Words.{labels_in};
 ghost use Rattle.context.specs.RegionStats.{elevations, elevation_kinds, region_stats};
-ghost use Rattle.context.specs.Held.{CellRoom, stats_in, one, lesser, stats_with_cell, NoCells};
+ghost use Rattle.context.specs.Held.{CellRoom, stats_in, lesser, stats_with_cell, NoCells};
 
 use wire::read_u32;
 
@@ -21,26 +21,11 @@ pub struct RegionStats {
     pub level_3: u32,
 }
 
+// The lesser number, where there is a first one.
 fn lesser(count: u32, x: u32, y: u32) -> u32
     ensures { result ≡ lesser count x y }
 {
-    if count == 0 {
-        return y;
-    }
-    if x < y { x } else { y }
-}
-
-fn greater(x: u32, y: u32) -> u32
-    ensures { result ≡ max x y }
-{
-    if x < y { y } else { x }
-}
-
-// 1 or 0.
-pub fn one(t: bool) -> u32
-    ensures { (result ≡ one t) × (result ≤ 1) }
-{
-    if t { 1 } else { 0 }
+    if count == 0 { y } else { x.min(y) }
 }
 
 impl RegionStats {
@@ -72,13 +57,13 @@ impl RegionStats {
             cells: self.cells + 1,
             min_x: lesser(self.cells, self.min_x, 8 * column),
             min_y: lesser(self.cells, self.min_y, 8 * row),
-            max_x: greater(self.max_x, 8 * column + 8),
-            max_y: greater(self.max_y, 8 * row + 8),
+            max_x: self.max_x.max(8 * column + 8),
+            max_y: self.max_y.max(8 * row + 8),
             has_ramp: self.has_ramp | (cell / 4 % 2 == 1),
-            level_0: self.level_0 + one(level == 0),
-            level_1: self.level_1 + one(level == 1),
-            level_2: self.level_2 + one(level == 2),
-            level_3: self.level_3 + one(level == 3),
+            level_0: self.level_0 + u32::from(level == 0),
+            level_1: self.level_1 + u32::from(level == 1),
+            level_2: self.level_2 + u32::from(level == 2),
+            level_3: self.level_3 + u32::from(level == 3),
         }
     }
 
@@ -86,20 +71,20 @@ impl RegionStats {
     pub fn elevation_kinds(self) -> u32
         ensures { result ≡ elevation_kinds (stats_in self) }
     {
-        one(0 < self.level_0)
-            + one(0 < self.level_1)
-            + one(0 < self.level_2)
-            + one(0 < self.level_3)
+        u32::from(0 < self.level_0)
+            + u32::from(0 < self.level_1)
+            + u32::from(0 < self.level_2)
+            + u32::from(0 < self.level_3)
     }
 
     // The set of elevations that occur, bit e for elevation e.
     pub fn elevations(self) -> u32
         ensures { result ≡ elevations (stats_in self) }
     {
-        one(0 < self.level_0)
-            + 2 * one(0 < self.level_1)
-            + 4 * one(0 < self.level_2)
-            + 8 * one(0 < self.level_3)
+        u32::from(0 < self.level_0)
+            + 2 * u32::from(0 < self.level_1)
+            + 4 * u32::from(0 < self.level_2)
+            + 8 * u32::from(0 < self.level_3)
     }
 }
 
@@ -159,11 +144,9 @@ pub fn region_stats(cells: &[u8], width: u32, labels: &[u8], region: u32) -> Reg
 {
     let n = cells.len();
     let mut stats = RegionStats::none();
-    let mut i: usize = 0;
-    while i < n {
+    for i in 0..n {
         let label = read_u32(labels, 4 * i);
         stats = counted(stats, region == label, i, width, cells[i]);
-        i += 1;
     }
     stats
 }

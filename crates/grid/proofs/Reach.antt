@@ -1,5 +1,5 @@
 -- Where a direction leads on from a cell of the map, the cell that it leads to and the two beside it are on the map.
-use mathlib.Core.Path.{◌≡◌, refl}
+use mathlib.Core.Path.{◌≡◌, refl, sym}
 use mathlib.Core.Bool.{Bool, true, false, not, ◌&&◌, ◌||◌}
 use mathlib.Core.List.{List}
 use Prim.Native.Nat.{ℕ, ◌+◌, ◌*◌, ◌<◌}
@@ -75,3 +75,9 @@ module _ {w h : ℕ} {cs : List ℕ} {p : WalkPosition} (at : CellPlace w h cs p
 
   pub place-on : p.y * w + p.x < length cs
   place-on = index_in_lem (grid_of w h cs) at.whole p.x p.y at.column at.row
+
+-- where the direction leads, as the code tells it
+pub leads-told : (d : ℕ) {w h : ℕ} {cs : List ℕ} {p : WalkPosition} {r : Bool} → CellPlace w h cs p
+    → ((g : Grid) (i : ℕ) → g.width ≡ w → g.height ≡ h → column_of g i ≡ p.x → row_of g i ≡ p.y → r ≡ leads_on g i d)
+    → leads_on (grid_of w h cs) (p.y * w + p.x) d ≡ r
+leads-told _ at told = sym (told _ _ refl refl (place-column at) (place-row at))

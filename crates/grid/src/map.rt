@@ -1,7 +1,7 @@
 // The map's sides, and the cell at a position: "Off the map there is no cell" (source document 004).
-ghost use Rattle.std.specs.Prelude.{◌≡◌, ◌<◌};
+ghost use Rattle.std.specs.Prelude.{◌≡◌};
 ghost use Rattle.grid.specs.Cells.{Grid};
-ghost use Rattle.grid.specs.Index.{index_in, index_at, cell_in, byte_at, byte_of, cell_on};
+ghost use Rattle.grid.specs.Index.{index_at, cell_on};
 
 use position::WalkPosition;
 
@@ -12,65 +12,27 @@ pub struct TerrainGrid {
     pub height: u32,
 }
 
-// The number of the cell at a position, if there is one.
-#[derive(Clone, Copy)]
-pub enum CellIndex {
-    At(usize),
-    Off,
-}
-
-// Its byte, if there is one.
-#[derive(Clone, Copy)]
-pub enum CellFound {
-    Byte(u8),
-    None,
-}
-
-fn wide(x: u32) -> usize
-    ensures { (result ≡ x) × (result < 4294967296) }
-{
-    x as usize
-}
-
-fn byte_at(cells: &[u8], i: usize) -> CellFound
-    ensures { cell_in result ≡ byte_at cells.now i }
-{
-    if cells.len() <= i {
-        return CellFound::None;
-    }
-    CellFound::Byte(cells[i])
-}
-
-fn byte_of(cells: &[u8], found: CellIndex) -> CellFound
-    ensures { cell_in result ≡ byte_of cells.now (index_in found) }
-{
-    match found {
-        CellIndex::At(i) => byte_at(cells, i),
-        CellIndex::Off => CellFound::None,
-    }
-}
-
 impl TerrainGrid {
-    pub fn index(self, position: WalkPosition) -> CellIndex
-        ensures { (g : Grid) → g.width ≡ self.width → g.height ≡ self.height → index_in result ≡ index_at g position }
+    // The number of the cell at a position, if there is one.
+    pub fn index(self, position: WalkPosition) -> Option<usize>
+        ensures { (g : Grid) → g.width ≡ self.width → g.height ≡ self.height → result ≡ index_at g position }
     {
         let x = position.x;
         let y = position.y;
-        let width = self.width;
-        let height = self.height;
-        if width <= x {
-            return CellIndex::Off;
+        if self.width <= x {
+            return None;
         }
-        if height <= y {
-            return CellIndex::Off;
+        if self.height <= y {
+            return None;
         }
-        CellIndex::At(wide(y) * wide(width) + wide(x))
+        Some(y as usize * self.width as usize + x as usize)
     }
 
-    pub fn cell(self, cells: &[u8], position: WalkPosition) -> CellFound
+    // Its byte, if there is one.
+    pub fn cell(self, cells: &[u8], position: WalkPosition) -> Option<u8>
         ensures { (g : Grid) → g.width ≡ self.width → g.height ≡ self.height →
-            g.cells ≡ cells.now → cell_in result ≡ cell_on g position }
+            g.cells ≡ cells.now → result ≡ cell_on g position }
     {
-        byte_of(cells, self.index(position))
+        cells.get(self.index(position)?).copied()
     }
 }

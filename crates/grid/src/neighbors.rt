@@ -1,4 +1,5 @@
-// The steps from a cell to its neighbours, by direction (source document 004).
+// The steps from a cell to its neighbours, by direction (source document 004). A direction is a number, not an enum: its column and its row
+// are computed from it, as d % 3 and d / 3.
 ghost use Rattle.std.specs.Prelude.{◌≡◌, true, ◌&&◌, ℕ, ◌+◌, ◌*◌, ◌/◌, ◌%◌, ◌<◌, ◌≤◌};
 ghost use Rattle.order.specs.Lists.{has};
 ghost use Rattle.grid.specs.Cells.{Grid, walkable, column_of, row_of};
@@ -8,7 +9,7 @@ ghost use Rattle.grid.specs.Steps.{leads_on, column_to, row_to, neighbour, besid
 use super::cells::{index, walkable_at};
 use position::WalkPosition;
 
-// The eight directions about a cell, as a set.
+// The eight directions about a cell, as a set. A number, not a list: one shift tells whether a direction is in it.
 pub const EIGHT: u32 = 495;
 
 // The direction is in the set.
