@@ -68,9 +68,6 @@ last-in {w} {h} d s c e = subst (λ (z : CellRange). z.last < cond (tall s) w h)
 pub last-along : {w h : ℕ} → Sides w h → (s : Span) {r : CellRange} → r ≡ strip_axis w h s → r.last < cond (tall s) h w
 last-along {w} {h} d s e = subst (λ (z : CellRange). z.last < cond (tall s) h w) (sym e) (axis-on d s)
 
-pub lower : {a b c : ℕ} → a ≤ b → b < c → a < c
-lower h l = omega arith
-
 -- the steps of the strip, with its ranges told otherwise
 pub beside-is : (dirs : List ℕ) (g : Grid) (s : Span) (c : ℕ) (r : CellRange) → r ≡ strip_minor g.width g.height s c →
     cut_beside dirs g s c ≡ gather (λ cm. cut_from dirs g s (cell_of g s c cm)) (up_from r.first (r.last + 1 - r.first))

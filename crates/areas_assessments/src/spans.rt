@@ -1,24 +1,12 @@
 // What each span of a list does to the areas.
-ghost use Rattle.std.specs.Prelude.{◌*◌, ◌<◌, ◌≤◌, length};
+ghost use Rattle.std.specs.Prelude.{◌*◌, length};
 ghost use Rattle.grid.specs.Cells.{map_of};
 ghost use Rattle.areas.specs.Words.{labels_in};
 ghost use Rattle.grid.specs.Directions.{directions_of};
-ghost use Rattle.areas_assessments.specs.Recording.{Recorded, SpansOnMap, Arrays, ConstantRun};
+ghost use Rattle.areas_assessments.specs.Recording.{Recorded, SpansOnMap, Arrays};
 
 use super::strip::assess_span;
 use areas::spans::span_at;
-
-// Puts v at the places from start to end.
-fn fill(numbers: &mut [u32], start: usize, end: usize, v: u32)
-    requires { (start ≤ end) × (end ≤ length numbers.old) × (length numbers.old ≤ 4096) }
-    ensures { ConstantRun numbers.old numbers.new start end v }
-{
-    let mut k = start;
-    while k < end {
-        numbers[k] = v;
-        k += 1;
-    }
-}
 
 // The counts of the first spans, and their pairs as records in the order of the spans. Gives the number of records, and one more than the arrays hold
 // where they are over that.
@@ -44,8 +32,7 @@ pub fn assess_spans(
 {
     let most = lefts.len();
     let mut end: usize = 0;
-    let mut i: usize = 0;
-    while i < count {
+    for i in 0..count {
         let span = span_at(ends, i);
         let a = assess_span(
             cells, width, height, directions, labels, span, lefts, rights, end,
@@ -56,9 +43,8 @@ pub fn assess_spans(
         }
         removed[i] = a.removed;
         separated[i] = a.separated;
-        fill(owners, end, next, i as u32);
+        owners[end..next].fill(i as u32);
         end = next;
-        i += 1;
     }
     end
 }

@@ -8,7 +8,7 @@ ghost use Rattle.areas_assessments.specs.Holding.{Advances, StepRoom, Grown};
 ghost use Rattle.areas_assessments.specs.Visits.{SpanOnMap, cut_in, cut_from};
 
 use super::pairs::insert_pair;
-use areas::geometry::{cut_by, max, min};
+use areas::geometry::cut_by;
 use grid::cells::index;
 use grid::neighbors::{has_direction, place_to, step_at};
 use position::{Span, WalkPosition};
@@ -50,7 +50,7 @@ fn count_step(
             end,
         };
     }
-    let next = insert_pair(lefts, rights, start, end, min(from, to), max(from, to));
+    let next = insert_pair(lefts, rights, start, end, from.min(to), from.max(to));
     Assessed {
         removed,
         separated: separated + 1,
@@ -123,12 +123,10 @@ pub fn assess_cell(
         rights.old state lefts.new rights.new result }
 {
     let mut done = state;
-    let mut d: u32 = 5;
-    while d < 9 {
+    for d in 5..9 {
         done = assess_step(
             cells, width, height, directions, labels, span, position, d, lefts, rights, start, done,
         );
-        d += 1;
     }
     done
 }

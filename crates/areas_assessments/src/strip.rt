@@ -47,10 +47,8 @@ fn assess_beside(
 {
     let tall = is_tall(span);
     let range = strip_minor(span, width, height, c);
-    let last = range.last;
     let mut done = state;
-    let mut cm = range.first;
-    while cm <= last {
+    for cm in range.first..range.last + 1 {
         done = assess_cell(
             cells,
             width,
@@ -64,7 +62,6 @@ fn assess_beside(
             start,
             done,
         );
-        cm += 1;
     }
     done
 }
@@ -89,18 +86,15 @@ pub fn assess_span(
         lefts.old rights.old start lefts.new rights.new result }
 {
     let range = strip_axis(span, width, height);
-    let last = range.last;
     let mut done = Assessed {
         removed: 0,
         separated: 0,
         end: start,
     };
-    let mut c = range.first;
-    while c <= last {
+    for c in range.first..range.last + 1 {
         done = assess_beside(
             cells, width, height, directions, labels, span, c, lefts, rights, start, done,
         );
-        c += 1;
     }
     done
 }

@@ -1,16 +1,10 @@
 // What is read from labels, and zeros.
-ghost use Rattle.std.specs.Prelude.{◌≡◌, cond, ◌-◌, ◌*◌, ◌≤◌, eqb, length, replicate};
+ghost use Rattle.std.specs.Prelude.{◌≡◌, ◌-◌, ◌*◌, ◌≤◌, length, replicate};
 ghost use Rattle.wire.specs.Bytes.{splice};
 ghost use Rattle.areas.specs.Areas.{cell_count};
 ghost use Rattle.areas.specs.Words.{labels_in};
 
 use wire::read_u32;
-
-fn tally(a: u32, b: u32) -> u32
-    ensures { (result ≡ cond (eqb b a) 1 0) × (result ≤ 1) }
-{
-    if a == b { 1 } else { 0 }
-}
 
 // How many of the first n words are the label.
 pub fn count_cells(work: &[u8], n: usize, label: u32) -> u32
@@ -18,10 +12,8 @@ pub fn count_cells(work: &[u8], n: usize, label: u32) -> u32
     ensures { result ≡ cell_count (labels_in work.now n) label }
 {
     let mut count: u32 = 0;
-    let mut i: usize = 0;
-    while i < n {
-        count += tally(read_u32(work, 4 * i), label);
-        i += 1;
+    for i in 0..n {
+        count += u32::from(label == read_u32(work, 4 * i));
     }
     count
 }
@@ -31,9 +23,5 @@ pub fn zero_fill(work: &mut [u8], from: usize, to: usize)
     requires { (from ≤ to) × (to ≤ length work.old) }
     ensures { work.new ≡ splice work.old from (replicate (to - from) 0) }
 {
-    let mut i = from;
-    while i < to {
-        work[i] = 0;
-        i += 1;
-    }
+    work[from..to].fill(0);
 }

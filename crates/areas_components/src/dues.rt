@@ -82,28 +82,25 @@ fn due_inner(work: &[u8], base: usize, n: usize, width: usize, i: usize) -> u8
     )
 }
 
-// Writes the due bytes of the cells from `from` up to `to`, any or inner ones.
-fn write_any(work: &mut [u8], base: usize, n: usize, width: usize, from: usize, to: usize)
-    requires { (base + 2 * n ≤ length work.old) × (from ≤ to) × (to ≤ n) × (n + width < 4294967296) }
+// Writes the due bytes of the cells from `from` up to `to`, each as the closure gives it.
+fn write_some<F: Fn(&[u8], usize) -> u8>(
+    work: &mut [u8],
+    base: usize,
+    n: usize,
+    width: usize,
+    from: usize,
+    to: usize,
+    due: F,
+)
+    requires in_bounds { (base + 2 * n ≤ length work.old) × (from ≤ to) × (to ≤ n) }
+    requires callable { (w : _) (i : ℕ) → base + n ≤ length w.now → from ≤ i → i < to → F.pre due w i }
+    requires gives_due { (w : _) (i b : ℕ) → base + n ≤ length w.now → from ≤ i → i < to → F.post due w i b
+        → b ≡ due_byte width (part w.now base n) i }
     ensures { (s : List ℕ) → DueTo n width base from s work.old → DueTo n width base to s work.new }
 {
-    let mut i = from;
-    while i < to {
-        let byte = due_any(work, base, n, width, i);
+    for i in from..to {
+        let byte = due(work, i);
         work[base + n + i] = byte;
-        i += 1;
-    }
-}
-
-fn write_inner(work: &mut [u8], base: usize, n: usize, width: usize, from: usize, to: usize)
-    requires { (base + 2 * n ≤ length work.old) × (0 < from) × (from ≤ to) × (to + width ≤ n) }
-    ensures { (s : List ℕ) → DueTo n width base from s work.old → DueTo n width base to s work.new }
-{
-    let mut i = from;
-    while i < to {
-        let byte = due_inner(work, base, n, width, i);
-        work[base + n + i] = byte;
-        i += 1;
     }
 }
 
@@ -112,11 +109,13 @@ pub fn write_dues(work: &mut [u8], base: usize, n: usize, width: usize)
     requires { (base + 2 * n ≤ length work.old) × (n + width < 4294967296) }
     ensures { work.new ≡ splice work.old (base + n) (dues width (part work.old base n)) }
 {
+    let any = |bytes: &[u8], i: usize| due_any(bytes, base, n, width, i);
+    let inner = |bytes: &[u8], i: usize| due_inner(bytes, base, n, width, i);
     if n <= width {
-        write_any(work, base, n, width, 0, n);
+        write_some(work, base, n, width, 0, n, any);
         return;
     }
-    write_any(work, base, n, width, 0, 1);
-    write_inner(work, base, n, width, 1, n - width);
-    write_any(work, base, n, width, n - width, n);
+    write_some(work, base, n, width, 0, 1, any);
+    write_some(work, base, n, width, 1, n - width, inner);
+    write_some(work, base, n, width, n - width, n, any);
 }

@@ -6,13 +6,13 @@ ghost use Rattle.graph.specs.Labelling.{Among};
 ghost use Rattle.areas_components.specs.Forests.{Forest};
 ghost use Rattle.areas_components.specs.Numbered.{walks, NextNumbered, ComponentLabels};
 
-use wire::{read_u32, size, write_u32};
+use wire::{read_u32, write_u32};
 
 // 1 where the byte of a cell says that it is walkable, and else 0.
 fn walk_bit(byte: u8) -> u32
     ensures { (result ≡ byte % 2) × (result ≤ 1) }
 {
-    (byte % 2) as u32
+    u32::from(byte % 2)
 }
 
 // x where the bit is 1, and else 0.
@@ -31,7 +31,7 @@ fn number_cell(cells: &[u8], work: &mut [u8], i: usize, count: u32) -> u32
     ensures { NextNumbered (walks cells.now i) i count work.old work.new result }
 {
     let bit = walk_bit(cells[i]);
-    let p = size(read_u32(work, 4 * i));
+    let p = read_u32(work, 4 * i) as usize;
     write_u32(work, 4 * i, count + 1);
     let label = only(bit, read_u32(work, 4 * p));
     write_u32(work, 4 * i, label);
@@ -45,10 +45,8 @@ pub fn number(cells: &[u8], work: &mut [u8]) -> u32
         → ComponentLabels (length cells.now) (walks cells.now) es work.old work.new result }
 {
     let mut count: u32 = 0;
-    let mut i: usize = 0;
-    while i < cells.len() {
+    for i in 0..cells.len() {
         count = number_cell(cells, work, i, count);
-        i += 1;
     }
     count
 }

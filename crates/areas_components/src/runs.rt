@@ -21,11 +21,9 @@ pub fn run_parents(work: &mut [u8], base: usize, n: usize)
 {
     let mut first: usize = 0;
     let mut joined = false;
-    let mut i: usize = 0;
-    while i < n {
+    for i in 0..n {
         first = pick(joined, first, i);
         set_parent(work, i, first);
         joined = work[base + i] % 2 == 1;
-        i += 1;
     }
 }

@@ -31,18 +31,10 @@ fn join_some(work: &mut [u8], base: usize, n: usize, width: usize, from: usize, 
     requires { Joinable n width base work.old × (from ≤ to) × (to ≤ n) }
     ensures { (s : List ℕ) → Joining n width base from s work.old → Joining n width base to s work.new }
 {
-    let mut i = from;
-    while i < to {
+    for i in from..to {
         let byte = work[base + i];
         join_cell(work, width, i, byte);
-        i += 1;
     }
-}
-
-fn larger(a: u8, b: u8) -> u8
-    ensures { (a ≤ result) × (b ≤ result) }
-{
-    if a < b { b } else { a }
 }
 
 // The 64 bytes from `at` on are 0.
@@ -51,10 +43,8 @@ fn clear(work: &[u8], at: usize) -> bool
     ensures { result ≡ true → (k : ℕ) → k < 64 → get_or work.now (at + k) 0 ≡ 0 }
 {
     let mut most: u8 = 0;
-    let mut k: usize = 0;
-    while k < 64 {
-        most = larger(most, work[at + k]);
-        k += 1;
+    for k in 0..64 {
+        most = most.max(work[at + k]);
     }
     most == 0
 }
@@ -74,10 +64,9 @@ pub fn join_all(work: &mut [u8], base: usize, n: usize, width: usize)
     requires { Joinable n width base work.old }
     ensures { JoinedAll n width (part work.old base n) work.old work.new }
 {
-    let mut i: usize = 0;
-    while i + 64 <= n {
-        join_block(work, base, n, width, i);
-        i += 64;
+    let blocks = n / 64;
+    for k in 0..blocks {
+        join_block(work, base, n, width, 64 * k);
     }
-    join_some(work, base, n, width, i, n);
+    join_some(work, base, n, width, 64 * blocks, n);
 }

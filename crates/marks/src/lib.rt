@@ -1,7 +1,7 @@
 // The marks of boundaries: each closed as a whole, all its region pairs at once, under small numbers for the labels of regions.
 #![tactic(auto)]
 
-ghost use Rattle.std.specs.Prelude.{◌≡◌, true, ◌≤◌, length};
+ghost use Rattle.std.specs.Prelude.{◌≡◌, true, ◌*◌, ◌≤◌, length};
 ghost use Rattle.graph.specs.Records.{records_in};
 ghost use Rattle.serial_walk.specs.Slices.{Lent};
 ghost use Rattle.marks_closing.specs.Log.{forest_tables};
@@ -18,14 +18,7 @@ fn single(owners: &[u32], count: usize) -> bool
     requires { count ≤ length owners.now }
     ensures { result ≡ true → SingleOwners count owners.now }
 {
-    let mut k: usize = 1;
-    while k < count {
-        if owners[k] <= owners[k - 1] {
-            return false;
-        }
-        k += 1;
-    }
-    true
+    owners[..count].is_sorted_by(|a, b| a < b)
 }
 
 // Closes each boundary: marks it with 1 if it is a choke, and with 0 if not, on arrays that are lent. The table of words from base on in work is left as it
@@ -143,8 +136,8 @@ fn mark_lent(
     );
 }
 
-// The same for few records, on short arrays.
-fn mark_few(
+// The same on arrays of its own, so long that they hold the records and the regions that these part.
+fn mark_sized<const RECORDS: usize, const REGIONS: usize>(
     owners: &[u32],
     lefts: &[u32],
     rights: &[u32],
@@ -154,67 +147,21 @@ fn mark_few(
     base: usize,
     marks: &mut [u8; 256],
 )
-    requires { OwnedRecords count owners.now lefts.now rights.now regions base work.old × (count ≤ 64) }
+    requires { OwnedRecords count owners.now lefts.now rights.now regions base work.old × (count ≤ RECORDS) × (2 * RECORDS ≤ REGIONS)
+        × (REGIONS ≤ 8192) }
     ensures marks { marks.new ≡ choke_marks (records_in owners.now lefts.now rights.now count) 256 }
     ensures work { work.new ≡ work.old }
 {
-    let mut small_lefts = [0u32; FEW];
-    let mut small_rights = [0u32; FEW];
-    let mut heads = [NONE; FEW_REGIONS];
-    let mut left_nexts = [0u32; FEW];
-    let mut right_nexts = [0u32; FEW];
-    let mut disc = [0u32; FEW_REGIONS];
-    let mut stack = [0u32; FEW_REGIONS];
-    let mut parents = [0u32; FEW_REGIONS];
-    let mut nexts = [0u32; FEW_REGIONS];
-    let mut lows = [0u32; FEW_REGIONS];
-    mark_lent(
-        owners,
-        lefts,
-        rights,
-        count,
-        regions,
-        work,
-        base,
-        &mut small_lefts,
-        &mut small_rights,
-        &mut heads,
-        &mut left_nexts,
-        &mut right_nexts,
-        &mut disc,
-        &mut stack,
-        &mut parents,
-        &mut nexts,
-        &mut lows,
-        marks,
-    );
-}
-
-// The same for any number of records, on long arrays.
-fn mark_many(
-    owners: &[u32],
-    lefts: &[u32],
-    rights: &[u32],
-    count: u32,
-    regions: usize,
-    work: &mut [u8],
-    base: usize,
-    marks: &mut [u8; 256],
-)
-    requires { OwnedRecords count owners.now lefts.now rights.now regions base work.old }
-    ensures marks { marks.new ≡ choke_marks (records_in owners.now lefts.now rights.now count) 256 }
-    ensures work { work.new ≡ work.old }
-{
-    let mut small_lefts = [0u32; MOST];
-    let mut small_rights = [0u32; MOST];
-    let mut heads = [NONE; MOST_REGIONS];
-    let mut left_nexts = [0u32; MOST];
-    let mut right_nexts = [0u32; MOST];
-    let mut disc = [0u32; MOST_REGIONS];
-    let mut stack = [0u32; MOST_REGIONS];
-    let mut parents = [0u32; MOST_REGIONS];
-    let mut nexts = [0u32; MOST_REGIONS];
-    let mut lows = [0u32; MOST_REGIONS];
+    let mut small_lefts = [0u32; RECORDS];
+    let mut small_rights = [0u32; RECORDS];
+    let mut heads = [NONE; REGIONS];
+    let mut left_nexts = [0u32; RECORDS];
+    let mut right_nexts = [0u32; RECORDS];
+    let mut disc = [0u32; REGIONS];
+    let mut stack = [0u32; REGIONS];
+    let mut parents = [0u32; REGIONS];
+    let mut nexts = [0u32; REGIONS];
+    let mut lows = [0u32; REGIONS];
     mark_lent(
         owners,
         lefts,
@@ -254,8 +201,8 @@ pub fn mark_boundaries(
 {
     let n = count as u32;
     if count <= FEW {
-        mark_few(owners, lefts, rights, n, regions, work, base, marks);
+        mark_sized::<FEW, FEW_REGIONS>(owners, lefts, rights, n, regions, work, base, marks);
         return;
     }
-    mark_many(owners, lefts, rights, n, regions, work, base, marks);
+    mark_sized::<MOST, MOST_REGIONS>(owners, lefts, rights, n, regions, work, base, marks);
 }

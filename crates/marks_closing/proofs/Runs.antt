@@ -1,12 +1,16 @@
 -- Records joined and looked at one after another.
 use mathlib.Core.Path.{◌≡◌, refl, sym, ◌∙◌, ap, subst}
-use mathlib.Core.Logic.{by_cases}
-use mathlib.Core.Bool.{true, false, not, ◌||◌}
+use mathlib.Core.Bool.{Bool, true, false, not, ◌||◌}
 use mathlib.Core.List.{List}
 use Prim.Native.Nat.{ℕ, zero, suc, ◌+◌, ◌-◌, ◌≤◌, ◌<◌}
 use native.Mathlib.Omega.{arith}
-use native.Mathlib.Decide.{ℕ_discrete}
-use borrow.Author.Tests.{eq-eqb, ne_eqb}
+use mir.Val.{bool_byte}
+use borrow.Author.Tests.{eq-eqb, ne_eqb, ltb-true, ltb-false}
+use lib.Dec.{ltb}
+use lib.ListN.{length, take, drop, get_or}
+use Rattle.std.specs.List.Sorted.{IsPartitionedBy, IsPartitionPoint}
+use Rattle.std.proofs.lemmas.List.{length-take, length-drop, get_or-take, get_or-drop}
+use Rattle.std.proofs.lemmas.List.Sorted.{IsPartitionedBy-ltb, IsNonDecreasingBy-from_default}
 use Rattle.lists.specs.Rows.{at}
 use Rattle.order.proofs.Bools.{or_right}
 use Rattle.graph.specs.Path.{Edge}
@@ -14,7 +18,8 @@ use Rattle.graph.specs.Parts.{component_of, same_part}
 use Rattle.graph.specs.Slices.{Graph}
 use Rattle.marks_closing.specs.Forest.{RootedForest, Root}
 use Rattle.marks_closing.specs.Log.{ForestTables, LogRoom, GrownForest, joining, adding}
-use Rattle.marks_closing.specs.Ranges.{some_parted}
+use Rattle.marks_closing.specs.Marks.{bit}
+use Rattle.marks_closing.specs.Ranges.{some_parted, RisingOwners, OwnersSplit}
 use Rattle.marks_closing.proofs.Finds.{root-same, same-root}
 use Rattle.marks_closing.proofs.Grows.{grown-with, grown-none, grown-trans, room-grown}
 
@@ -132,6 +137,37 @@ module _ (es : List Edge) (lefts rights : List ℕ) (from : ℕ) where
     pub parted-here : (a ≡ b → ⊥) → (to : ℕ) → k < to → true ≡ some_parted es lefts rights from (to - from)
     parted-here d to m = sym (parted-at k l (other-part d) to m)
 
--- what holds of all from `from` on, as far as k and at k
-pub below_next : (f : ℕ → ℕ) (b k from : ℕ) → ((i : ℕ) → from ≤ i → i < k → f i < b) → f k < b → (i : ℕ) → from ≤ i → i < k + 1 → f i < b
-below_next f b k from h n i l m = by_cases (ℕ_discrete i k) (λ e. omega (arith, ap f e)) (λ d. h i l (omega arith))
+-- owners from `from` up to `to`, as a slice
+module _ (owners : List ℕ) (from to b : ℕ) (h : from ≤ to) (room : to ≤ length owners) where
+  part-long : length (take (to - from) (drop from owners)) ≡ to - from
+  part-long = omega (arith, length-take (to - from) (drop from owners), length-drop from owners)
+
+  part-at : (k : ℕ) → k < to - from → get_or (take (to - from) (drop from owners)) k 0 ≡ at owners (from + k)
+  part-at k l = get_or-take (to - from) (drop from owners) k 0 l ∙ get_or-drop from owners k 0
+
+  -- those below b stand before the others
+  pub owners-parted : RisingOwners to owners → IsPartitionedBy (λ y. ltb y b) (take (to - from) (drop from owners))
+  owners-parted rise =
+      IsPartitionedBy-ltb (λ y. y) _ b
+      (IsNonDecreasingBy-from_default (λ y. y) _ 0
+      (λ i j l m.
+      let before : j < to - from = omega (arith, part-long) in
+      omega (arith, part-at i (omega arith), part-at j before, rise (from + i) (from + j) (omega arith) (omega arith))))
+
+  pub owners_split : (i : ℕ) → i ≤ length (take (to - from) (drop from owners))
+      → IsPartitionPoint (λ y. ltb y b ≡ true) (λ y. ltb y b ≡ false) (take (to - from) (drop from owners)) i → OwnersSplit owners from to b (from + i)
+  owners_split i l p = record {
+    low = omega arith;
+    high = omega (arith, part-long);
+    below = λ k m n. omega (arith, ltb-true _ b (p.0 (k - from) 0 (omega arith) (omega arith)), here k m (omega (arith, part-long)));
+    above = λ k m n.
+        omega (arith, ltb-false _ b (p.1 (k - from) 0 (omega arith) (omega (arith, part-long))), here k (omega arith) (omega (arith, part-long)));
+  }
+    where
+      here : (k : ℕ) → from ≤ k → k < to → get_or (take (to - from) (drop from owners)) (k - from) 0 ≡ at owners k
+      here k m n = part-at (k - from) (omega arith) ∙ ap (at owners) (let z : from + (k - from) ≡ k = omega arith in z)
+
+-- a test as a byte
+pub byte-is-bit : (t : Bool) → bool_byte t ≡ bit t
+byte-is-bit true = refl
+byte-is-bit false = refl

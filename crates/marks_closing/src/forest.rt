@@ -108,9 +108,7 @@ pub fn undo(
     ensures { forest_tables parents.new heights.new joined.now earlier.now ≡
         undone (forest_tables parents.old heights.old joined.now earlier.now) n (m - n) }
 {
-    let mut k = m;
-    while n < k {
-        k -= 1;
+    for k in (n..m).rev() {
         part_again(parents, heights, joined[k], earlier[k]);
     }
 }

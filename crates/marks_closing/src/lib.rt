@@ -21,11 +21,9 @@ fn clear(parents: &mut [u32], heights: &mut [u32])
     requires { (length heights.old ≡ length parents.old) × (length parents.old ≤ 8192) }
     ensures { ClearedForest (length parents.old) (length parents.old) parents.new heights.new }
 {
-    let mut i: usize = 0;
-    while i < parents.len() {
+    for i in 0..parents.len() {
         parents[i] = i as u32;
         heights[i] = 0;
-        i += 1;
     }
 }
 

@@ -29,10 +29,8 @@ fn join_records(
         (forest_tables parents.new heights.new joined.new earlier.new) result }
 {
     let mut m = n;
-    let mut k = from;
-    while k < to {
+    for k in from..to {
         m = join(parents, heights, joined, earlier, m, lefts[k], rights[k]);
-        k += 1;
     }
     m
 }
@@ -50,14 +48,12 @@ fn parted(
     ensures { (es : List Edge) → RootedForest es parents.now →
         result ≡ some_parted es lefts.now rights.now from (to - from) }
 {
-    let mut k = from;
-    while k < to {
+    for k in from..to {
         let left = find(parents, heights, lefts[k]);
         let right = find(parents, heights, rights[k]);
         if left != right {
             return true;
         }
-        k += 1;
     }
     false
 }
@@ -77,11 +73,7 @@ fn mark_one(
     ensures { (es : List Edge) → RootedForest es parents.now →
         marks.new ≡ set marks.old b (bit (some_parted es lefts.now rights.now from (to - from))) }
 {
-    if parted(lefts, rights, from, to, parents, heights) {
-        marks[b] = 1;
-    } else {
-        marks[b] = 0;
-    }
+    marks[b] = u8::from(parted(lefts, rights, from, to, parents, heights));
 }
 
 // The first record from `from` on whose owner is not below b, or `to`.
@@ -89,14 +81,7 @@ fn first_from(owners: &[u32], from: usize, to: usize, b: usize) -> usize
     requires { (from ≤ to) × (to ≤ length owners.now) × RisingOwners to owners.now }
     ensures { OwnersSplit owners.now from to b result }
 {
-    let mut k = from;
-    while k < to {
-        if b <= owners[k] as usize {
-            return k;
-        }
-        k += 1;
-    }
-    to
+    from + owners[from..to].partition_point(|&owner| (owner as usize) < b)
 }
 
 // Marks the boundaries lo, …, hi - 1, whose records are those from `from` up to `to`. The forest has all other records, and has them again at the end.

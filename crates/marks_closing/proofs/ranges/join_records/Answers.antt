@@ -1,0 +1,54 @@
+use Prim.Native.Nat.{◌-◌}
+use native.Mathlib.Omega.{arith}
+use Rattle.marks_closing.proofs.Runs.{adding-start, adding-next, adding-end, adding-room}
+use Rattle.marks_closing.proofs.ranges.join_records.Goals as goal
+
+pub loop-k-init : goal.loop-k-init
+loop-k-init c =
+    (omega arith, omega arith, adding-start c.args.lefts.now c.args.rights.now c.args.from c.requires.2)
+
+pub bounds-lefts-k : goal.bounds-lefts-k
+bounds-lefts-k c =
+    omega (arith, c.requires.1.lefts-are)
+
+pub bounds-rights-k : goal.bounds-rights-k
+bounds-rights-k c =
+    omega (arith, c.requires.1.rights-are)
+
+pub join-m-requires : goal.join-m-requires
+join-m-requires c =
+    let p = c.requires in
+    let inv = c.loop-k.invariant in
+    let taken = c.loop-k-test.true in (
+      adding-room inv.0 taken p.2 inv.2,
+      omega (arith, p.1.left_in c.loop-k.k taken, inv.2.size),
+      omega (arith, p.1.right-in c.loop-k.k taken, inv.2.size),
+    )
+
+pub loop-k-preserved : goal.loop-k-preserved
+loop-k-preserved c =
+    let a = c.args in
+    let inv = c.loop-k.invariant in (
+      omega (arith, inv.0),
+      omega (arith, c.loop-k-test.true),
+      adding-next a.lefts.now a.rights.now a.from inv.0 inv.2 c.join-m.ensures,
+    )
+
+pub shape_of-parents : goal.shape_of-parents
+shape_of-parents c = c.loop-k.invariant.2.size
+
+pub shape_of-heights : goal.shape_of-heights
+shape_of-heights c =
+    let grown = c.loop-k.invariant.2 in
+    omega (arith, grown.size, grown.trees.sized, c.requires.2.trees.sized)
+
+pub shape_of-joined : goal.shape_of-joined
+shape_of-joined c = c.loop-k.invariant.2.log.joined-size
+
+pub shape_of-earlier : goal.shape_of-earlier
+shape_of-earlier c = c.loop-k.invariant.2.log.earlier-size
+
+pub returns : goal.returns
+returns c =
+    let a = c.args in
+    adding-end a.lefts.now a.rights.now a.from (omega arith) c.loop-k.invariant.2

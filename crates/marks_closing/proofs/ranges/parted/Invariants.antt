@@ -1,0 +1,13 @@
+use mathlib.Core.Path.{◌≡◌}
+use mathlib.Core.Bool.{false}
+use mathlib.Core.List.{List}
+use Prim.Native.Nat.{◌-◌, ◌≤◌}
+use Rattle.graph.specs.Path.{Edge}
+use Rattle.marks_closing.specs.Forest.{RootedForest}
+use Rattle.marks_closing.specs.Ranges.{some_parted}
+use Rattle.marks_closing.proofs.ranges.parted.Given as goal
+
+-- no record before k is parted
+abbrev pub invariant-loop-k : goal.invariant-loop-k
+invariant-loop-k l =
+    (l.from ≤ l.k) × (l.k ≤ l.to) × ((es : List Edge) → RootedForest es l.parents → some_parted es l.lefts l.rights l.from (l.k - l.from) ≡ false)
