@@ -93,8 +93,8 @@ pub fn mark_bridges(
     forget_all(lefts, rights, count, regions, work, base);
 }
 
-// The same for few records, on short arrays.
-fn mark_few(
+// The same on arrays of its own, for as many records and regions as they have places.
+fn mark_on<const RECORDS: usize, const REGIONS: usize>(
     owners: &[u32],
     lefts: &[u32],
     rights: &[u32],
@@ -105,68 +105,21 @@ fn mark_few(
     marks: &mut [u8; 256],
 )
     requires { Owners count owners.now × (count ≤ length owners.now) × Labelled count lefts.now rights.now regions
-        × (base + 4 * regions ≤ length work.old) × ((x : ℕ) → x < regions → u32_at work.old (base + 4 * x) ≡ 0) × (count ≤ 64) }
+        × (base + 4 * regions ≤ length work.old) × ((x : ℕ) → x < regions → u32_at work.old (base + 4 * x) ≡ 0)
+        × (count ≤ RECORDS) × (RECORDS ≤ 4096) × (2 * count ≤ REGIONS) × (REGIONS ≤ 8192) }
     ensures marks { marks.new ≡ bridge_marks (records_in owners.now lefts.now rights.now count) 256 }
     ensures work { work.new ≡ work.old }
 {
-    let mut small_lefts = [0u32; FEW];
-    let mut small_rights = [0u32; FEW];
-    let mut heads = [NONE; FEW_REGIONS];
-    let mut left_nexts = [0u32; FEW];
-    let mut right_nexts = [0u32; FEW];
-    let mut disc = [0u32; FEW_REGIONS];
-    let mut stack = [0u32; FEW_REGIONS];
-    let mut parents = [0u32; FEW_REGIONS];
-    let mut nexts = [0u32; FEW_REGIONS];
-    let mut lows = [0u32; FEW_REGIONS];
-    mark_bridges(
-        owners,
-        lefts,
-        rights,
-        count,
-        regions,
-        work,
-        base,
-        &mut small_lefts,
-        &mut small_rights,
-        &mut heads,
-        &mut left_nexts,
-        &mut right_nexts,
-        &mut disc,
-        &mut stack,
-        &mut parents,
-        &mut nexts,
-        &mut lows,
-        marks,
-    );
-}
-
-// The same for any number of records, on long arrays.
-fn mark_many(
-    owners: &[u32],
-    lefts: &[u32],
-    rights: &[u32],
-    count: u32,
-    regions: usize,
-    work: &mut [u8],
-    base: usize,
-    marks: &mut [u8; 256],
-)
-    requires { Owners count owners.now × (count ≤ length owners.now) × Labelled count lefts.now rights.now regions
-        × (base + 4 * regions ≤ length work.old) × ((x : ℕ) → x < regions → u32_at work.old (base + 4 * x) ≡ 0) }
-    ensures marks { marks.new ≡ bridge_marks (records_in owners.now lefts.now rights.now count) 256 }
-    ensures work { work.new ≡ work.old }
-{
-    let mut small_lefts = [0u32; MOST];
-    let mut small_rights = [0u32; MOST];
-    let mut heads = [NONE; MOST_REGIONS];
-    let mut left_nexts = [0u32; MOST];
-    let mut right_nexts = [0u32; MOST];
-    let mut disc = [0u32; MOST_REGIONS];
-    let mut stack = [0u32; MOST_REGIONS];
-    let mut parents = [0u32; MOST_REGIONS];
-    let mut nexts = [0u32; MOST_REGIONS];
-    let mut lows = [0u32; MOST_REGIONS];
+    let mut small_lefts = [0u32; RECORDS];
+    let mut small_rights = [0u32; RECORDS];
+    let mut heads = [NONE; REGIONS];
+    let mut left_nexts = [0u32; RECORDS];
+    let mut right_nexts = [0u32; RECORDS];
+    let mut disc = [0u32; REGIONS];
+    let mut stack = [0u32; REGIONS];
+    let mut parents = [0u32; REGIONS];
+    let mut nexts = [0u32; REGIONS];
+    let mut lows = [0u32; REGIONS];
     mark_bridges(
         owners,
         lefts,
@@ -211,8 +164,8 @@ pub fn bridge_boundary_indices(
     }
     let n = count as u32;
     if count <= FEW {
-        mark_few(owners, lefts, rights, n, regions, work, base, marks);
+        mark_on::<FEW, FEW_REGIONS>(owners, lefts, rights, n, regions, work, base, marks);
         return;
     }
-    mark_many(owners, lefts, rights, n, regions, work, base, marks);
+    mark_on::<MOST, MOST_REGIONS>(owners, lefts, rights, n, regions, work, base, marks);
 }

@@ -4,7 +4,6 @@ ghost use Rattle.wire.specs.Bytes.{splice, u32_at, u32_bytes};
 ghost use Rattle.serial_bridges.specs.Names.{Labelled, EndNumbers, Forgotten};
 
 use label_table::{put_word, word_of};
-use wire::size;
 
 // The number of a label that stands at a place: the one that it has, or that of the place.
 fn number_of(work: &mut [u8], base: usize, label: u32, place: u32) -> u32
@@ -42,7 +41,7 @@ fn number_record(
         → EndNumbers count lefts.now rights.now regions base start work.new small_lefts.new
         small_rights.new (k + 1) }
 {
-    let at = size(k);
+    let at = k as usize;
     small_lefts[at] = number_of(work, base, lefts[at], 2 * k);
     small_rights[at] = number_of(work, base, rights[at], 2 * k + 1);
 }
@@ -63,8 +62,7 @@ pub fn number_all(
     ensures { EndNumbers count lefts.now rights.now regions base work.old work.new small_lefts.new
         small_rights.new count }
 {
-    let mut k = 0;
-    while k < count {
+    for k in 0..count {
         number_record(
             lefts,
             rights,
@@ -76,7 +74,6 @@ pub fn number_all(
             small_lefts,
             small_rights,
         );
-        k += 1;
     }
 }
 
@@ -94,7 +91,7 @@ fn forget_record(
     ensures { (start : List ℕ) → Forgotten count lefts.now rights.now regions base start work.old k
         → Forgotten count lefts.now rights.now regions base start work.new (k + 1) }
 {
-    let at = size(k);
+    let at = k as usize;
     put_word(work, base, lefts[at], 0);
     put_word(work, base, rights[at], 0);
 }
@@ -112,9 +109,7 @@ pub fn forget_all(
     ensures { (start : List ℕ) → Forgotten count lefts.now rights.now regions base start work.old 0
         → Forgotten count lefts.now rights.now regions base start work.new count }
 {
-    let mut k = 0;
-    while k < count {
+    for k in 0..count {
         forget_record(lefts, rights, count, k, regions, work, base);
-        k += 1;
     }
 }

@@ -277,6 +277,11 @@ gives_found d r e g = g ∙ ap
     (λ (t : Touching). not (has r d.anchors) && joins_two d.own d.marks d.lowers d.highers r
     t.count t.first t.second) e
 
+-- where the region gives a link, there is room for it
+pub room : (d : Given) (r : ℕ) {count : ℕ} {t : Touching} {b : Bool} → (found d r ≡ true → count < 256) → t ≡ seen d r
+    → b ≡ (not (has r d.anchors) && joins_two d.own d.marks d.lowers d.highers r t.count t.first t.second) → b ≡ true → count < 256
+room d r few e g told = few (sym (gives_found d r e g) ∙ told)
+
 pub added-one : {d : Given} {r count : ℕ} {rs fs ss : List ℕ} {t : Touching} → t ≡ seen d r → found d r ≡ true
     → LinkAdded d r count rs fs ss (count + 1) (set rs count r) (set fs count t.first) (set ss count t.second)
 added-one {d} {r} {count} {rs} {fs} {ss} e h =

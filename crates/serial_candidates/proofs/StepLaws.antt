@@ -1,5 +1,5 @@
 -- The steps of the search for what touches a region, of the marks and of the search for the next region.
-use mathlib.Core.Path.{◌≡◌, ◌∙◌, ap}
+use mathlib.Core.Path.{◌≡◌, refl, ◌∙◌, ap}
 use mathlib.Core.Logic.{by_cases}
 use mathlib.Core.Bool.{Bool, true, false, cond, not, ◌&&◌, ◌||◌}
 use mathlib.Core.List.{List}
@@ -10,6 +10,7 @@ use native.Mathlib.Decide.{ℕ_discrete}
 use lib.Dec.{eqb}
 use lib.ListN.{length, get_or, set}
 use lib.Seq.{get_or-set_same, get_or-set_other}
+use mir.Val.{bool_byte}
 use Rattle.graph.specs.Records.{Record}
 use Rattle.serial_candidates.specs.Owners.{in_record}
 use Rattle.serial_candidates.specs.Touchers.{with_owner, touched, touching_after}
@@ -60,6 +61,11 @@ marked_next test marks i v r h e = record {
 
 pub marked-end : {test : ℕ → Bool} {k n : ℕ} {marks : List ℕ} → k ≡ n → Flags test k marks → Flags test n marks
 marked-end e h = rw (← e) h
+
+-- a mark as a number
+pub as_number : (b : Bool) → bool_byte b ≡ cond b 1 0
+as_number true = refl
+as_number false = refl
 
 -- a rank's mark, by what is read of it
 pub can-link : (own ramps removed separated counts : List ℕ) (i : ℕ) {s : Span} {coincides full : Bool} → s ≡ span_in own i → coincides ≡ pos_same s.a s.b

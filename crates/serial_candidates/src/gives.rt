@@ -6,7 +6,6 @@ ghost use Rattle.serial_candidates.specs.Gives.{has_region, OwnBounded, TwoBelow
 use areas::spans::span_at;
 use context::anchored::is_anchored;
 use serial_links::geometry::centres_differ;
-use wire::size;
 
 // The rank can be linked, and the region is one of its pair.
 fn has_region(
@@ -40,8 +39,8 @@ pub fn joins_two(
     if count != 2 {
         return false;
     }
-    let i = size(first);
-    let j = size(second);
+    let i = first as usize;
+    let j = second as usize;
     let one = has_region(linkables, lowers, highers, i, region);
     let other = has_region(linkables, lowers, highers, j, region);
     (one & other) & centres_differ(span_at(own, i), span_at(own, j))

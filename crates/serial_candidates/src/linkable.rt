@@ -22,7 +22,7 @@ fn mark(
     let distinct = !s.coincides();
     let plain = ramps[rank] == 0;
     let full = has_full_pair(removed[rank], separated[rank], counts[rank]);
-    if (distinct & plain) & full { 1 } else { 0 }
+    u8::from((distinct & plain) & full)
 }
 
 // A mark for each rank.
@@ -40,9 +40,7 @@ pub fn find_linkables(
         linkables.new }
 {
     *linkables = [0u8; 256];
-    let mut i: usize = 0;
-    while i < n {
+    for i in 0..n {
         linkables[i] = mark(i, own, ramps, removed, separated, counts);
-        i += 1;
     }
 }

@@ -2,8 +2,6 @@
 ghost use Rattle.std.specs.Prelude.{◌≡◌, cond, ◌+◌, ◌<◌, ◌≤◌, eqb, get_or, set};
 ghost use Rattle.serial_candidates.specs.Owners.{Stored, OwnersBelow, Firsts};
 
-use wire::size;
-
 // One pair more of a rank.
 fn add_pair(
     rank: usize,
@@ -44,10 +42,8 @@ pub fn first_pairs(
     *counts = [0u32; 256];
     *lowers = [0u32; 256];
     *highers = [0u32; 256];
-    let mut k: usize = 0;
-    while k < records {
-        let rank = size(owners[k]);
+    for k in 0..records {
+        let rank = owners[k] as usize;
         add_pair(rank, lefts[k], rights[k], counts, lowers, highers);
-        k += 1;
     }
 }

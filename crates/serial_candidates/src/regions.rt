@@ -35,10 +35,8 @@ pub fn next_region(
     ensures { (result ≡ next_after linkables.now lowers.now highers.now after n) × (result < 4294967296) }
 {
     let mut best: u32 = 0;
-    let mut i: usize = 0;
-    while i < n {
+    for i in 0..n {
         best = considered(after, best, linkables[i], lowers[i], highers[i]);
-        i += 1;
     }
     best
 }

@@ -67,10 +67,8 @@ pub fn touching_of(
         second: 0,
         last: 0,
     };
-    let mut k: usize = 0;
-    while k < records {
+    for k in 0..records {
         t = t.after(owners[k], lefts[k], rights[k], region);
-        k += 1;
     }
     t
 }

@@ -4,7 +4,7 @@ ghost use Rattle.std.specs.Float.{binary64};
 ghost use Rattle.std.specs.Float.Ieee.{of_bits};
 ghost use Rattle.position.specs.Order.{canonical};
 ghost use Rattle.position.specs.Bounds.{Bounded};
-ghost use Rattle.serial_links.specs.Geometry.{apart, squares, centre_of, point_of, point_length, centre_length, doubled_centre, towards, scaled, turned};
+ghost use Rattle.serial_links.specs.Geometry.{squares, centre_of, point_of, point_length, centre_length, doubled_centre, towards, scaled, turned};
 ghost use Rattle.serial_links.specs.Geometry.{dot};
 ghost use Rattle.serial_links.specs.Geometry.{reach};
 ghost use Rattle.serial_links.specs.Link.{widened, end_bounds, no_bounds, link_direction, span_direction};
@@ -28,14 +28,6 @@ pub struct Range {
     pub high: f64,
 }
 
-// How far two numbers are apart.
-fn apart(m: u32, n: u32) -> u32
-    requires { (m ≤ 16384) × (n ≤ 16384) }
-    ensures { (result ≡ apart m n) × (result ≤ 16384) }
-{
-    if m < n { n - m } else { m - n }
-}
-
 fn square(n: u32) -> u32
     requires { n ≤ 16384 }
     ensures { (result ≡ n * n) × (result ≤ 268435456) }
@@ -48,7 +40,7 @@ fn squares(ax: u32, ay: u32, bx: u32, by: u32) -> u32
     requires { (ax ≤ 16384) × (ay ≤ 16384) × (bx ≤ 16384) × (by ≤ 16384) }
     ensures { (result ≡ squares (doubled ax ay) (doubled bx by)) × (result ≤ 536870912) }
 {
-    square(apart(ax, bx)) + square(apart(ay, by))
+    square(ax.abs_diff(bx)) + square(ay.abs_diff(by))
 }
 
 fn centre_squares(first: Span, second: Span) -> u32

@@ -44,7 +44,7 @@ pub struct Link {
     pub seen: bool,
 }
 
-// A measured link; the transverse envelope before the longitudinal.
+// A measured link; the transverse envelope before the longitudinal. Three cases, not an Option of a Result: a link beyond its limits is no error.
 #[derive(Clone, Copy)]
 pub enum Measured {
     Empty,
@@ -231,10 +231,6 @@ impl Measured {
     pub fn passing(self) -> bool
         ensures { result ≡ passing (measured_meaning self) }
     {
-        match self {
-            Measured::Empty => false,
-            Measured::Within(_, _) => true,
-            Measured::Beyond(_, _) => false,
-        }
+        matches!(self, Measured::Within(_, _))
     }
 }

@@ -36,11 +36,9 @@ pub fn measure_one(
     ensures { AllCells (limits_of limits) width (labels_in labels.now n) region n start result }
 {
     let mut link = start;
-    let mut i: usize = 0;
-    while i < n {
+    for i in 0..n {
         let label = read_u32(labels, 4 * i);
         link = counted(link, region == label, i, width, limits);
-        i += 1;
     }
     link
 }
@@ -73,8 +71,7 @@ pub fn measure_few(
     *flat = [0u8; 256];
     *inside = [0u8; 256];
     let n = cells.len();
-    let mut k: usize = 0;
-    while k < links {
+    for k in 0..links {
         let region = regions[k];
         let start = link_at(own, bits, firsts[k], seconds[k]);
         let link = measure_one(start, n, width, work, region, limits);
@@ -82,6 +79,5 @@ pub fn measure_few(
         passing[k] = passing_mark(link, limits);
         flat[k] = flat_mark(link, stats);
         inside[k] = inside_mark(link);
-        k += 1;
     }
 }

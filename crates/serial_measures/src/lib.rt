@@ -18,13 +18,7 @@ use few::measure_few;
 use label_table::{put_word, word_of};
 use serial_links::limits::Limits;
 use serial_links::link::{Link, link_of};
-use wire::{read_u32, size};
-
-fn flag(t: bool) -> u8
-    ensures { result ≡ cond t 1 0 }
-{
-    if t { 1 } else { 0 }
-}
+use wire::read_u32;
 
 // Gives the region of each link its number in the table.
 fn number_all(work: &mut [u8], n: usize, regions: &[u32; 256], links: u32)
@@ -32,10 +26,8 @@ fn number_all(work: &mut [u8], n: usize, regions: &[u32; 256], links: u32)
     ensures { Written work.old work.new n regions.now links }
 {
     let base = 4 * n;
-    let mut k: u32 = 0;
-    while k < links {
-        put_word(work, base, regions[size(k)], k + 1);
-        k += 1;
+    for k in 0..links {
+        put_word(work, base, regions[k as usize], k + 1);
     }
 }
 
@@ -45,10 +37,8 @@ fn clear_all(work: &mut [u8], n: usize, regions: &[u32; 256], links: u32)
     ensures { (start : List ℕ) → Labels start n → Written start work.old n regions.now links → work.new ≡ start }
 {
     let base = 4 * n;
-    let mut k: u32 = 0;
-    while k < links {
-        put_word(work, base, regions[size(k)], 0);
-        k += 1;
+    for k in 0..links {
+        put_word(work, base, regions[k as usize], 0);
     }
 }
 
@@ -69,8 +59,8 @@ fn link_at(own: &[u32; 1024], bits: &[u64; 256], first: u32, second: u32) -> Lin
     requires { CoordinatesBounded own.now bits.now × (first < 256) × (second < 256) }
     ensures { result ≡ no_cell (value_in own.now bits.now first second) }
 {
-    let i = size(first);
-    let j = size(second);
+    let i = first as usize;
+    let j = second as usize;
     link_of(span_at(own, i), bits[i], span_at(own, j), bits[j])
 }
 
@@ -78,21 +68,21 @@ fn link_at(own: &[u32; 1024], bits: &[u64; 256], first: u32, second: u32) -> Lin
 fn passing_mark(link: Link, limits: Limits) -> u8
     ensures { result ≡ cond (passing (measured_in (limits_of limits) link)) 1 0 }
 {
-    flag(link.measured(limits).passing())
+    u8::from(link.measured(limits).passing())
 }
 
 // 1 for a region inside the flat envelope, without a ramp and of one elevation.
 fn flat_mark(link: Link, stats: RegionStats) -> u8
     ensures { result ≡ cond (flat_in link stats) 1 0 }
 {
-    flag(link.inside & (!stats.has_ramp & (stats.elevation_kinds() == 1)))
+    u8::from(link.inside & (!stats.has_ramp & (stats.elevation_kinds() == 1)))
 }
 
 // 1 for a region inside the flat envelope.
 fn inside_mark(link: Link) -> u8
     ensures { result ≡ cond link.inside 1 0 }
 {
-    flag(link.inside)
+    u8::from(link.inside)
 }
 
 // Measures the links by the cells of their regions, whose numbers are in the table.
@@ -125,35 +115,28 @@ fn measure_all(
     let n = cells.len();
     let mut table = [link_at(own, bits, 0, 0); 256];
     let mut stats = [RegionStats::none(); 256];
-    let mut k: usize = 0;
-    while k < links {
+    for k in 0..links {
         table[k] = link_at(own, bits, firsts[k], seconds[k]);
-        k += 1;
     }
     let mut column: u32 = 0;
     let mut row: u32 = 0;
-    let mut i: usize = 0;
-    while i < n {
-        let cell = i;
+    for i in 0..n {
         let x = column;
         let y = row;
         row = next_row(x, y, width);
         column = next_column(x, width);
-        i += 1;
-        let number = number_at(work, n, cell);
+        let number = number_at(work, n, i);
         if number == 0 {
             continue;
         }
-        let j = size(number - 1);
+        let j = (number - 1) as usize;
         table[j] = table[j].at(x, y, limits);
-        stats[j] = stats[j].with(x, y, cells[cell]);
+        stats[j] = stats[j].with(x, y, cells[i]);
     }
-    let mut m: usize = 0;
-    while m < links {
+    for m in 0..links {
         passing[m] = passing_mark(table[m], limits);
         flat[m] = flat_mark(table[m], stats[m]);
         inside[m] = inside_mark(table[m]);
-        m += 1;
     }
 }
 

@@ -9,14 +9,14 @@ ghost use Rattle.serial_ranks.specs.Tables.{record_place, Records, put_span, Spa
 
 use format::{BOUNDARY_SIZE, read_span};
 use position::{PixelPosition, Span};
-use wire::{read_u64, size, wide};
+use wire::read_u64;
 
 // Where the record of a rank begins.
 fn record_place(s: &[u8], at: usize, stride: usize, order: &[u32; 256], n: usize, i: usize) -> usize
     requires { Records s.now at stride order.now n × (i < n) }
     ensures { (result ≡ record_place at stride order.now i) × (result + stride ≤ length s.now) }
 {
-    at + size(order[i]) * stride
+    at + order[i] as usize * stride
 }
 
 // Puts a span at place i of the array.
@@ -45,11 +45,9 @@ pub fn fill_spans(
     ensures { SpansOf s.now at stride order.now n ends.new }
 {
     *ends = [0u32; 1024];
-    let mut i: usize = 0;
-    while i < n {
+    for i in 0..n {
         let place = record_place(s, at, stride, order, n, i);
         put_span(ends, i, read_span(s, place).canonical());
-        i += 1;
     }
 }
 
@@ -59,11 +57,9 @@ pub fn fill_widths(s: &[u8], at: usize, order: &[u32; 256], n: usize, bits: &mut
     ensures { WidthsOf s.now at order.now n bits.new }
 {
     *bits = [0u64; 256];
-    let mut i: usize = 0;
-    while i < n {
+    for i in 0..n {
         let place = record_place(s, at, BOUNDARY_SIZE, order, n, i);
         bits[i] = read_u64(s, place + 16);
-        i += 1;
     }
 }
 
@@ -72,11 +68,9 @@ pub fn fill_ramps(s: &[u8], at: usize, order: &[u32; 256], n: usize, ramps: &mut
     requires { Records s.now at boundary_size order.now n × (length ramps.old ≡ 256) }
     ensures { RampsOf s.now at order.now n ramps.new }
 {
-    let mut i: usize = 0;
-    while i < n {
+    for i in 0..n {
         let place = record_place(s, at, BOUNDARY_SIZE, order, n, i);
         ramps[i] = s[place + 32];
-        i += 1;
     }
 }
 
@@ -84,7 +78,7 @@ pub fn fill_ramps(s: &[u8], at: usize, order: &[u32; 256], n: usize, ramps: &mut
 fn pack(p: PixelPosition) -> u64
     ensures { result ≡ pack p.x p.y }
 {
-    wide(p.x) * 0x1_0000_0000 + wide(p.y)
+    u64::from(p.x) * 0x1_0000_0000 + u64::from(p.y)
 }
 
 // The canonical ends of the records, by place, each end in one number.
@@ -92,12 +86,10 @@ pub fn fill_keys(s: &[u8], at: usize, n: usize, first: &mut [u64; 256], second: 
     requires { (n ≤ 256) × (at + n * boundary_size ≤ length s.now) × (length first.old ≡ 256) × (length second.old ≡ 256) }
     ensures { KeysOf s.now at boundary_size n first.new second.new }
 {
-    let mut i: usize = 0;
-    while i < n {
+    for i in 0..n {
         let ends = read_span(s, at + i * BOUNDARY_SIZE).canonical();
         first[i] = pack(ends.a);
         second[i] = pack(ends.b);
-        i += 1;
     }
 }
 
@@ -106,9 +98,7 @@ pub fn fill_identity(order: &mut [u32; 256])
     requires { length order.old ≡ 256 }
     ensures { Identity order.new }
 {
-    let mut i: u32 = 0;
-    while i < 256 {
+    for i in 0..256 {
         order[i as usize] = i;
-        i += 1;
     }
 }
