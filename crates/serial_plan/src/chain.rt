@@ -35,11 +35,9 @@ fn gaps_of(own: &[u32; 1024], firsts: &[u32; 256], seconds: &[u32; 256], links: 
     ensures { PartsOf result (map (gap_length_in firsts.now seconds.now own.now) (few_list links)) }
 {
     let mut gaps = Parts::none();
-    let mut j: u32 = 0;
-    while j < links.count {
+    for j in 0..links.count {
         let k = links.index(j);
         gaps = gaps.with(gap(own, firsts, seconds, k));
-        j += 1;
     }
     gaps
 }

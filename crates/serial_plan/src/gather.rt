@@ -26,9 +26,7 @@ pub fn ranks_of(n: usize, joined: &[u8; 256], parts: &[u32; 256], c: u32) -> Few
     ensures { result ≡ few_of (keep (in_part joined.now parts.now c) (up_from 0 n)) }
 {
     let mut found = Few::none();
-    let mut i = n;
-    while 0 < i {
-        i -= 1;
+    for i in (0..n).rev() {
         found = found.with(number(i), in_part(joined[i], parts[i], c));
     }
     found
@@ -54,9 +52,7 @@ pub fn links_of(
     ensures { result ≡ few_of (keep (link_in_part chosen.now firsts.now parts.now c) (up_from 0 links)) }
 {
     let mut found = Few::none();
-    let mut k = links;
-    while 0 < k {
-        k -= 1;
+    for k in (0..links).rev() {
         found = found.with(number(k), in_part(chosen[k], part_at(parts, firsts[k]), c));
     }
     found

@@ -96,13 +96,11 @@ pub fn into_serial(
         regions.now firsts.now seconds.now links passing.now chosen.now joined.now
         parts.now) n into.new }
 {
-    let mut i: usize = 0;
-    while i < n {
+    for i in 0..n {
         into[i] = one_serial(
             limits, n, own, bits, lowers, highers, regions, firsts, seconds, links, passing,
             chosen, joined, parts, into, i,
         );
-        i += 1;
     }
 }
 
@@ -166,13 +164,11 @@ pub fn into_flat(
         regions.now firsts.now seconds.now links chosen.now joined.now parts.now) n
         into.new }
 {
-    let mut i: usize = 0;
-    while i < n {
+    for i in 0..n {
         into[i] = one_flat(
             limits, n, own, bits, lowers, highers, regions, firsts, seconds, links, chosen, joined,
             parts, into, i,
         );
-        i += 1;
     }
 }
 
@@ -190,9 +186,7 @@ pub fn combine(n: usize, serial: &[u32; 256], flat: &[u32; 256], plan: &mut [u32
     requires { (n ≤ 256) × (length plan.old ≡ 256) }
     ensures { FirstAre (λ i. goes_to (at serial.now i) (at flat.now i) i) n plan.new }
 {
-    let mut i: usize = 0;
-    while i < n {
+    for i in 0..n {
         plan[i] = goes_to(serial[i], flat[i], i as u32);
-        i += 1;
     }
 }

@@ -29,10 +29,8 @@ pub fn start(parts: &mut [u32; 256])
     requires { length parts.old ≡ 256 }
     ensures { FirstAre (λ i. i) 256 parts.new }
 {
-    let mut i: usize = 0;
-    while i < 256 {
+    for i in 0..256 {
         parts[i] = i as u32;
-        i += 1;
     }
 }
 
@@ -43,10 +41,8 @@ fn join_parts(parts: &mut [u32; 256], a: u32, b: u32)
 {
     let low = smaller(a, b);
     let high = larger(a, b);
-    let mut i: usize = 0;
-    while i < 256 {
+    for i in 0..256 {
         parts[i] = moved(parts[i], high, low);
-        i += 1;
     }
 }
 
@@ -76,9 +72,7 @@ pub fn connected_link_groups(
     ensures { FirstAre (part_from chosen.now firsts.now seconds.now 0 links) 256 parts.new }
 {
     start(parts);
-    let mut k = links;
-    while 0 < k {
-        k -= 1;
+    for k in (0..links).rev() {
         join_link(parts, chosen[k], firsts[k], seconds[k]);
     }
 }
@@ -108,9 +102,7 @@ pub fn mark_joined(
         joined.new }
 {
     *joined = [0u8; 256];
-    let mut k = links;
-    while 0 < k {
-        k -= 1;
+    for k in (0..links).rev() {
         mark_link(joined, chosen[k], firsts[k], seconds[k]);
     }
 }

@@ -49,9 +49,7 @@ fn links_at(firsts: &[u32; 256], seconds: &[u32; 256], links: Few, i: u32) -> Ne
     ensures { result ≡ near (keep (joins_at firsts.now seconds.now i) (few_list links)) }
 {
     let mut found = Near { count: 0, first: 0 };
-    let mut j = links.count;
-    while 0 < j {
-        j -= 1;
+    for j in (0..links.count).rev() {
         let k = links.index(j);
         found = found.with(links.get(j), joins(firsts[k], seconds[k], i));
     }
@@ -64,9 +62,7 @@ pub fn group_end_nodes(firsts: &[u32; 256], seconds: &[u32; 256], ranks: Few, li
     ensures { result ≡ few_of (ends_in firsts.now seconds.now (few_list ranks) (few_list links)) }
 {
     let mut found = Few::none();
-    let mut j = ranks.count;
-    while 0 < j {
-        j -= 1;
+    for j in (0..ranks.count).rev() {
         let i = ranks.get(j);
         let near = links_at(firsts, seconds, links, i);
         found = found.with(i, near.count == 1);
@@ -80,9 +76,7 @@ fn regular(firsts: &[u32; 256], seconds: &[u32; 256], ranks: Few, links: Few) ->
     ensures { result ≡ regular_in firsts.now seconds.now (few_list ranks) (few_list links) }
 {
     let mut all = true;
-    let mut j = ranks.count;
-    while 0 < j {
-        j -= 1;
+    for j in (0..ranks.count).rev() {
         let near = links_at(firsts, seconds, links, ranks.get(j));
         all = ((1 <= near.count) & (near.count <= 2)) & all;
     }
@@ -95,9 +89,7 @@ pub fn all_on(marks: &[u8; 256], links: Few) -> bool
     ensures { result ≡ every (is_on marks.now) (few_list links) }
 {
     let mut all = true;
-    let mut j = links.count;
-    while 0 < j {
-        j -= 1;
+    for j in (0..links.count).rev() {
         all = (marks[links.index(j)] == 1) & all;
     }
     all

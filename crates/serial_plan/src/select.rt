@@ -36,10 +36,8 @@ pub fn select_serial(
     ensures { FirstAre (λ k. cond (both_on marks.now (at firsts.now k) (at seconds.now k)) 1 0) links
         chosen.new }
 {
-    let mut k: usize = 0;
-    while k < links {
+    for k in 0..links {
         chosen[k] = mark(both_on(marks, size(firsts[k]), size(seconds[k])));
-        k += 1;
     }
 }
 
@@ -84,8 +82,7 @@ pub fn select_flat(
         (flat_link_in (limits_of limits) own.now into.now (at flat.now k) (at firsts.now k)
         (at seconds.now k)) 1 0) links chosen.new }
 {
-    let mut k: usize = 0;
-    while k < links {
+    for k in 0..links {
         chosen[k] = mark(is_flat_link(
             limits,
             own,
@@ -94,6 +91,5 @@ pub fn select_flat(
             size(firsts[k]),
             size(seconds[k]),
         ));
-        k += 1;
     }
 }
