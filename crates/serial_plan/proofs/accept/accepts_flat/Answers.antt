@@ -11,11 +11,11 @@ group_is_simple_path-path-requires c = (c.requires.0, c.requires.1, λ j. (c.req
 pub returns-then-not-path : goal.returns-then-not-path
 returns-then-not-path c =
     let a = c.args in
-    flat-no (limits_of a.limits) a.own.now a.lowers.now a.highers.now a.regions.now a.firsts.now a.seconds.now
+    flat-no (limits_of a.limits) a.t.now.own.now a.t.now.lowers.now a.t.now.highers.now a.t.now.regions.now a.t.now.firsts.now a.t.now.seconds.now
     (few_list a.ranks) (few_list a.links) c.group_is_simple_path-path.ensures (ap not c.if-not-path.true)
 
 pub returns : goal.returns
 returns c =
     let a = c.args in
-    flat-yes (limits_of a.limits) a.own.now a.lowers.now a.highers.now a.regions.now a.firsts.now a.seconds.now
+    flat-yes (limits_of a.limits) a.t.now.own.now a.t.now.lowers.now a.t.now.highers.now a.t.now.regions.now a.t.now.firsts.now a.t.now.seconds.now
     (few_list a.ranks) (few_list a.links) c.group_is_simple_path-path.ensures (ap not c.if-not-path.false) c.all_alike.ensures

@@ -28,7 +28,7 @@ loop-k-preserved c =
     let a = c.args in (
       omega (arith, l.invariant.0),
       picked_next l.invariant.1 c.loop-k-test.true l.invariant.0 c.with-found.ensures
-          (c.in_part.ensures ∙ ap (λ (x : ℕ). eqb (get_or a.chosen.now (l.k - 1) 0) 1 && eqb x a.c) c.part_at.ensures)
+          (c.in_part.ensures ∙ ap (λ (x : ℕ). eqb (get_or a.g.now.chosen.now (l.k - 1) 0) 1 && eqb x a.c) c.part_at.ensures)
           c.number.ensures,
     )
 

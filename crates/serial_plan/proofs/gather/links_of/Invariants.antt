@@ -4,4 +4,4 @@ use Rattle.serial_plan.proofs.FewLaws.{Picked}
 use Rattle.serial_plan.proofs.gather.links_of.Given as goal
 
 abbrev pub invariant-loop-k : goal.invariant-loop-k
-invariant-loop-k l = (l.k ≤ l.links) × Picked (link_in_part l.chosen l.firsts l.parts l.c) (λ j. j) l.links l.k l.found
+invariant-loop-k l = (l.k ≤ l.t.links) × Picked (link_in_part l.g.chosen.now l.t.firsts.now l.g.parts.now l.c) (λ j. j) l.t.links l.k l.found

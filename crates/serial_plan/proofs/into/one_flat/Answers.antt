@@ -4,9 +4,9 @@ use Rattle.serial_plan.proofs.IntoLaws.{no-group, one-group, together-flat}
 use native.Mathlib.Omega.{arith}
 use Rattle.serial_plan.proofs.into.one_flat.Goals as goal
 
-pub returns-then-joined-i-ne1 : goal.returns-then-joined-i-ne1
+pub returns-then-g-i-ne1 : goal.returns-then-g-i-ne1
 unfolding flat_into
-returns-then-joined-i-ne1 c = no-group _ c.if-joined-i-ne1.true
+returns-then-g-i-ne1 c = no-group _ c.if-g-i-ne1.true
 
 pub returns-then-e-i : goal.returns-then-e-i
 returns-then-e-i c =
@@ -16,4 +16,4 @@ returns-then-e-i c =
 pub returns : goal.returns
 unfolding flat_into
 returns c =
-    one-group c.if-joined-i-ne1.false (c.short.ensures ∙ c.judge_flat.ensures.0)
+    one-group c.if-g-i-ne1.false (c.short.ensures ∙ c.judge_flat.ensures.0)

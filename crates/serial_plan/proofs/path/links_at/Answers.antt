@@ -16,7 +16,7 @@ with-found-requires c =
 pub loop-j-preserved : goal.loop-j-preserved
 loop-j-preserved c =
     let start = c.args in
-    let joining = joins_at start.firsts.now start.seconds.now start.i in (
+    let joining = joins_at start.t.now.firsts.now start.t.now.seconds.now start.i in (
       omega (arith, c.loop-j.invariant.0),
       noted-next c.loop-j.invariant.1 c.loop-j-test.true c.loop-j.invariant.0 c.with-found.ensures
           (c.joins.ensures ∙ ap joining c.index-k.ensures.0) c.get.ensures,

@@ -12,8 +12,8 @@ use Rattle.serial_plan.proofs.path.regular.Goals as goal
 
 pub loop-j-init : goal.loop-j-init
 loop-j-init c =
-    let seconds = c.args.seconds.now in
-    let firsts = c.args.firsts.now in
+    let seconds = c.args.t.now.seconds.now in
+    let firsts = c.args.t.now.firsts.now in
     let ranks = c.args.ranks in
     let links = c.args.links in (
       omega arith,
@@ -27,8 +27,8 @@ links_at-near-requires c =
 
 pub loop-j-preserved : goal.loop-j-preserved
 loop-j-preserved c =
-    let seconds = c.args.seconds.now in
-    let firsts = c.args.firsts.now in
+    let seconds = c.args.t.now.seconds.now in
+    let firsts = c.args.t.now.firsts.now in
     let ranks = c.args.ranks in
     let links = c.args.links in (
       omega (arith, c.loop-j.invariant.0),
@@ -42,5 +42,5 @@ loop-j-preserved c =
 
 pub returns : goal.returns
 returns c =
-    regular-whole c.args.firsts.now c.args.seconds.now (few_list c.args.links) c.args.ranks c.loop-j.invariant.1
+    regular-whole c.args.t.now.firsts.now c.args.t.now.seconds.now (few_list c.args.links) c.args.ranks c.loop-j.invariant.1
     (omega (arith, c.loop-j-test.false))

@@ -13,7 +13,7 @@ use Rattle.serial_plan.proofs.select.select_flat.Goals as goal
 
 pub is_flat_link-requires : goal.is_flat_link-requires
 is_flat_link-requires c =
-    let own = c.args.own.now in (
+    let own = c.args.t.now.own.now in (
       subst (RankFits own) (sym c.size.ensures.0) (c.requires.2 c.loop-k.k c.loop-k-test.true).first,
       subst (RankFits own) (sym c.size-in-loop-k.ensures.0) (c.requires.2 c.loop-k.k c.loop-k-test.true).second,
     )
@@ -24,6 +24,6 @@ loop-k-preserved c = (
   filled_next c.mark.result c.loop-k.invariant.1 (omega (arith, c.loop-k-test.true, c.requires.1))
       (c.mark.ensures ∙ ap (λ (t : Bool). cond t 1 0)
       (c.is_flat_link.ensures
-      ∙ both (flat_link_in (limits_of c.args.limits) c.args.own.now c.args.into.now
+      ∙ both (flat_link_in (limits_of c.args.limits) c.args.t.now.own.now c.args.into.now
       (at c.args.flat.now c.loop-k.k)) c.size.ensures.0 c.size-in-loop-k.ensures.0)),
 )

@@ -6,4 +6,4 @@ use Rattle.serial_plan.specs.Shape.{both_on}
 use Rattle.serial_plan.proofs.select.select_serial.Given as goal
 
 abbrev pub invariant-loop-k : goal.invariant-loop-k
-invariant-loop-k l = (l.k ≤ l.links) × FirstAre (λ j. cond (both_on l.marks (at l.firsts j) (at l.seconds j)) 1 0) l.k l.chosen
+invariant-loop-k l = (l.k ≤ l.t.links) × FirstAre (λ j. cond (both_on l.marks (at l.t.firsts.now j) (at l.t.seconds.now j)) 1 0) l.k l.chosen
