@@ -28,9 +28,7 @@ fn alike_to_all(limits: Limits, own: &[u32; 1024], i: usize, ranks: Few) -> bool
     ensures { result ≡ every (alike_in (limits_of limits) own.now i) (few_list ranks) }
 {
     let mut all = true;
-    let mut j = ranks.count;
-    while 0 < j {
-        j -= 1;
+    for j in (0..ranks.count).rev() {
         all = alike(limits, own, i, ranks.index(j)) & all;
     }
     all
@@ -42,9 +40,7 @@ pub fn all_alike(limits: Limits, own: &[u32; 1024], ranks: Few) -> bool
     ensures { result ≡ all_alike_in (limits_of limits) own.now (few_list ranks) }
 {
     let mut all = true;
-    let mut j = ranks.count;
-    while 0 < j {
-        j -= 1;
+    for j in (0..ranks.count).rev() {
         all = alike_to_all(limits, own, ranks.index(j), ranks) & all;
     }
     all

@@ -8,6 +8,7 @@ ghost use Rattle.serial_plan.specs.Shape.{gap_length_in, chain_total_in};
 ghost use Rattle.serial_plan.specs.Fitting.{RankFits, LinkFits, Links};
 
 use crate::few::Few;
+use crate::tables::Tables;
 use areas::spans::span_at;
 use length::Length;
 use serial_links::geometry::centre_distance;
@@ -22,33 +23,31 @@ pub fn rank_distance(own: &[u32; 1024], i: usize, j: usize) -> Length
     centre_distance(span_at(own, i), span_at(own, j))
 }
 
-fn gap(own: &[u32; 1024], firsts: &[u32; 256], seconds: &[u32; 256], k: usize) -> Length
-    requires { LinkFits own.now firsts.now seconds.now k }
-    ensures { result ≡ gap_length_in firsts.now seconds.now own.now k }
+fn gap(t: &Tables, k: usize) -> Length
+    requires { LinkFits t.now.own.now t.now.firsts.now t.now.seconds.now k }
+    ensures { result ≡ gap_length_in t.now.firsts.now t.now.seconds.now t.now.own.now k }
 {
-    rank_distance(own, size(firsts[k]), size(seconds[k]))
+    rank_distance(t.own, size(t.firsts[k]), size(t.seconds[k]))
 }
 
 // The links' distances, in their order.
-fn gaps_of(own: &[u32; 1024], firsts: &[u32; 256], seconds: &[u32; 256], links: Few) -> Parts
-    requires { (links.count ≤ 16) × Links own.now firsts.now seconds.now links }
-    ensures { PartsOf result (map (gap_length_in firsts.now seconds.now own.now) (few_list links)) }
+fn gaps_of(t: &Tables, links: Few) -> Parts
+    requires { (links.count ≤ 16) × Links t.now.own.now t.now.firsts.now t.now.seconds.now links }
+    ensures { PartsOf result (map (gap_length_in t.now.firsts.now t.now.seconds.now t.now.own.now) (few_list links)) }
 {
     let mut gaps = Parts::none();
-    let mut j: u32 = 0;
-    while j < links.count {
+    for j in 0..links.count {
         let k = links.index(j);
-        gaps = gaps.with(gap(own, firsts, seconds, k));
-        j += 1;
+        gaps = gaps.with(gap(t, k));
     }
     gaps
 }
 
 // The links' distances, added up from the least.
-pub fn chain_sum(own: &[u32; 1024], firsts: &[u32; 256], seconds: &[u32; 256], links: Few) -> Length
-    requires { (1 ≤ links.count) × (links.count ≤ 16) × Links own.now firsts.now seconds.now links }
-    ensures { result ≡ chain_total_in firsts.now seconds.now own.now (few_list links) }
+pub fn chain_sum(t: &Tables, links: Few) -> Length
+    requires { (1 ≤ links.count) × (links.count ≤ 16) × Links t.now.own.now t.now.firsts.now t.now.seconds.now links }
+    ensures { result ≡ chain_total_in t.now.firsts.now t.now.seconds.now t.now.own.now (few_list links) }
 {
-    let gaps = gaps_of(own, firsts, seconds, links);
+    let gaps = gaps_of(t, links);
     gaps.ascending_sum()
 }

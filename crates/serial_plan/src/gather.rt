@@ -6,6 +6,7 @@ ghost use Rattle.serial_plan.specs.Few.{few_of};
 ghost use Rattle.serial_plan.specs.Arrays.{in_part, link_in_part, LinkRanks};
 
 use crate::few::Few;
+use crate::tables::{Groups, Tables};
 
 fn number(i: usize) -> u32
     requires { i < 256 }
@@ -21,15 +22,13 @@ fn in_part(joined: u8, part: u32, c: u32) -> bool
 }
 
 // The joined ranks of part c.
-pub fn ranks_of(n: usize, joined: &[u8; 256], parts: &[u32; 256], c: u32) -> Few
+pub fn ranks_of(n: usize, g: &Groups, c: u32) -> Few
     requires { n ≤ 256 }
-    ensures { result ≡ few_of (keep (in_part joined.now parts.now c) (up_from 0 n)) }
+    ensures { result ≡ few_of (keep (in_part g.now.joined.now g.now.parts.now c) (up_from 0 n)) }
 {
     let mut found = Few::none();
-    let mut i = n;
-    while 0 < i {
-        i -= 1;
-        found = found.with(number(i), in_part(joined[i], parts[i], c));
+    for i in (0..n).rev() {
+        found = found.with(number(i), in_part(g.joined[i], g.parts[i], c));
     }
     found
 }
@@ -42,22 +41,16 @@ fn part_at(parts: &[u32; 256], i: u32) -> u32
 }
 
 // The chosen links of part c, by number.
-pub fn links_of(
-    links: usize,
-    chosen: &[u8; 256],
-    firsts: &[u32; 256],
-    seconds: &[u32; 256],
-    parts: &[u32; 256],
-    c: u32,
-) -> Few
-    requires { LinkRanks 256 firsts.now seconds.now links }
-    ensures { result ≡ few_of (keep (link_in_part chosen.now firsts.now parts.now c) (up_from 0 links)) }
+pub fn links_of(t: &Tables, g: &Groups, c: u32) -> Few
+    requires { LinkRanks 256 t.now.firsts.now t.now.seconds.now t.now.links }
+    ensures { result ≡ few_of (keep (link_in_part g.now.chosen.now t.now.firsts.now g.now.parts.now c) (up_from 0 t.now.links)) }
 {
     let mut found = Few::none();
-    let mut k = links;
-    while 0 < k {
-        k -= 1;
-        found = found.with(number(k), in_part(chosen[k], part_at(parts, firsts[k]), c));
+    for k in (0..t.links).rev() {
+        found = found.with(
+            number(k),
+            in_part(g.chosen[k], part_at(g.parts, t.firsts[k]), c),
+        );
     }
     found
 }

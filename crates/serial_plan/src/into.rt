@@ -7,6 +7,7 @@ ghost use Rattle.serial_plan.specs.Into.{serial_into, flat_into, goes_to};
 ghost use Rattle.serial_plan.specs.Fitting.{Safe};
 
 use crate::judge::{judge_flat, judge_serial};
+use crate::tables::{Groups, Tables};
 use serial_links::limits::Limits;
 use wire::size;
 
@@ -18,14 +19,14 @@ fn short(x: usize) -> u32
 }
 
 // The first rank of rank i's part, if it is earlier and goes where i goes; else i.
-fn judged_before(joined: &[u8; 256], parts: &[u32; 256], i: usize) -> usize
+fn judged_before(g: &Groups, i: usize) -> usize
     requires { i < 256 }
-    ensures { (result ≤ i) × (at joined.now result ≡ at joined.now i) × (at parts.now result ≡ at parts.now i) }
+    ensures { (result ≤ i) × (at g.now.joined.now result ≡ at g.now.joined.now i) × (at g.now.parts.now result ≡ at g.now.parts.now i) }
 {
-    let c = size(parts[i]);
+    let c = size(g.parts[i]);
     if c < i {
-        if joined[c] == joined[i] {
-            if parts[c] == parts[i] {
+        if g.joined[c] == g.joined[i] {
+            if g.parts[c] == g.parts[i] {
                 return c;
             }
         }
@@ -36,143 +37,78 @@ fn judged_before(joined: &[u8; 256], parts: &[u32; 256], i: usize) -> usize
 // The rank that rank i goes into by the serial group of its part; each part is judged at its first rank.
 fn one_serial(
     limits: Limits,
-    n: usize,
-    own: &[u32; 1024],
-    bits: &[u64; 256],
-    lowers: &[u32; 256],
-    highers: &[u32; 256],
-    regions: &[u32; 256],
-    firsts: &[u32; 256],
-    seconds: &[u32; 256],
-    links: usize,
+    t: &Tables,
     passing: &[u8; 256],
-    chosen: &[u8; 256],
-    joined: &[u8; 256],
-    parts: &[u32; 256],
+    g: &Groups,
     into: &[u32; 256],
     i: usize,
 ) -> u32
-    requires { (limits.most_spans ≤ 16) × Safe n own.now bits.now firsts.now seconds.now links × (i < 256)
-        × FirstAre (serial_into (limits_of limits) n own.now bits.now lowers.now highers.now regions.now firsts.now seconds.now links
-        passing.now chosen.now joined.now parts.now) i into.now }
-    ensures { result ≡ serial_into (limits_of limits) n own.now bits.now lowers.now highers.now
-        regions.now firsts.now seconds.now links passing.now chosen.now joined.now
-        parts.now i }
+    requires { (limits.most_spans ≤ 16) × Safe t.now.n t.now.own.now t.now.bits.now t.now.firsts.now t.now.seconds.now t.now.links × (i < 256)
+        × FirstAre (serial_into (limits_of limits) t.now.n t.now.own.now t.now.bits.now t.now.lowers.now t.now.highers.now t.now.regions.now
+        t.now.firsts.now t.now.seconds.now t.now.links
+        passing.now g.now.chosen.now g.now.joined.now g.now.parts.now) i into.now }
+    ensures { result ≡ serial_into (limits_of limits) t.now.n t.now.own.now t.now.bits.now t.now.lowers.now t.now.highers.now
+        t.now.regions.now t.now.firsts.now t.now.seconds.now t.now.links passing.now g.now.chosen.now g.now.joined.now
+        g.now.parts.now i }
 {
-    if joined[i] != 1 {
+    if g.joined[i] != 1 {
         return 256;
     }
-    let e = judged_before(joined, parts, i);
+    let e = judged_before(g, i);
     if e < i {
         return into[e];
     }
-    let c = parts[i];
-    short(judge_serial(
-        limits, n, own, bits, lowers, highers, regions, firsts, seconds, links, passing, chosen,
-        joined, parts, c,
-    ))
+    let c = g.parts[i];
+    short(judge_serial(limits, t, passing, g, c))
 }
 
 // The same of each rank.
 pub fn into_serial(
     limits: Limits,
-    n: usize,
-    own: &[u32; 1024],
-    bits: &[u64; 256],
-    lowers: &[u32; 256],
-    highers: &[u32; 256],
-    regions: &[u32; 256],
-    firsts: &[u32; 256],
-    seconds: &[u32; 256],
-    links: usize,
+    t: &Tables,
     passing: &[u8; 256],
-    chosen: &[u8; 256],
-    joined: &[u8; 256],
-    parts: &[u32; 256],
+    g: &Groups,
     into: &mut [u32; 256],
 )
-    requires { (limits.most_spans ≤ 16) × Safe n own.now bits.now firsts.now seconds.now links × (length into.old ≡ 256) }
-    ensures { FirstAre (serial_into (limits_of limits) n own.now bits.now lowers.now highers.now
-        regions.now firsts.now seconds.now links passing.now chosen.now joined.now
-        parts.now) n into.new }
+    requires { (limits.most_spans ≤ 16) × Safe t.now.n t.now.own.now t.now.bits.now t.now.firsts.now t.now.seconds.now t.now.links × (length into.old ≡ 256) }
+    ensures { FirstAre (serial_into (limits_of limits) t.now.n t.now.own.now t.now.bits.now t.now.lowers.now t.now.highers.now
+        t.now.regions.now t.now.firsts.now t.now.seconds.now t.now.links passing.now g.now.chosen.now g.now.joined.now
+        g.now.parts.now) t.now.n into.new }
 {
-    let mut i: usize = 0;
-    while i < n {
-        into[i] = one_serial(
-            limits, n, own, bits, lowers, highers, regions, firsts, seconds, links, passing,
-            chosen, joined, parts, into, i,
-        );
-        i += 1;
+    for i in 0..t.n {
+        into[i] = one_serial(limits, t, passing, g, into, i);
     }
 }
 
 // The rank that rank i goes into by the flat group of its part; each part is judged at its first rank.
-fn one_flat(
-    limits: Limits,
-    n: usize,
-    own: &[u32; 1024],
-    bits: &[u64; 256],
-    lowers: &[u32; 256],
-    highers: &[u32; 256],
-    regions: &[u32; 256],
-    firsts: &[u32; 256],
-    seconds: &[u32; 256],
-    links: usize,
-    chosen: &[u8; 256],
-    joined: &[u8; 256],
-    parts: &[u32; 256],
-    into: &[u32; 256],
-    i: usize,
-) -> u32
-    requires { (limits.most_spans ≤ 16) × Safe n own.now bits.now firsts.now seconds.now links × (i < 256)
-        × FirstAre (flat_into (limits_of limits) n own.now bits.now lowers.now highers.now regions.now firsts.now seconds.now links chosen.now
-        joined.now parts.now) i into.now }
-    ensures { result ≡ flat_into (limits_of limits) n own.now bits.now lowers.now highers.now regions.now
-        firsts.now seconds.now links chosen.now joined.now parts.now i }
+fn one_flat(limits: Limits, t: &Tables, g: &Groups, into: &[u32; 256], i: usize) -> u32
+    requires { (limits.most_spans ≤ 16) × Safe t.now.n t.now.own.now t.now.bits.now t.now.firsts.now t.now.seconds.now t.now.links × (i < 256)
+        × FirstAre (flat_into (limits_of limits) t.now.n t.now.own.now t.now.bits.now t.now.lowers.now t.now.highers.now t.now.regions.now
+        t.now.firsts.now t.now.seconds.now t.now.links g.now.chosen.now
+        g.now.joined.now g.now.parts.now) i into.now }
+    ensures { result ≡ flat_into (limits_of limits) t.now.n t.now.own.now t.now.bits.now t.now.lowers.now t.now.highers.now t.now.regions.now
+        t.now.firsts.now t.now.seconds.now t.now.links g.now.chosen.now g.now.joined.now g.now.parts.now i }
 {
-    if joined[i] != 1 {
+    if g.joined[i] != 1 {
         return 256;
     }
-    let e = judged_before(joined, parts, i);
+    let e = judged_before(g, i);
     if e < i {
         return into[e];
     }
-    let c = parts[i];
-    short(judge_flat(
-        limits, n, own, bits, lowers, highers, regions, firsts, seconds, links, chosen, joined,
-        parts, c,
-    ))
+    let c = g.parts[i];
+    short(judge_flat(limits, t, g, c))
 }
 
 // The same of each rank.
-pub fn into_flat(
-    limits: Limits,
-    n: usize,
-    own: &[u32; 1024],
-    bits: &[u64; 256],
-    lowers: &[u32; 256],
-    highers: &[u32; 256],
-    regions: &[u32; 256],
-    firsts: &[u32; 256],
-    seconds: &[u32; 256],
-    links: usize,
-    chosen: &[u8; 256],
-    joined: &[u8; 256],
-    parts: &[u32; 256],
-    into: &mut [u32; 256],
-)
-    requires { (limits.most_spans ≤ 16) × Safe n own.now bits.now firsts.now seconds.now links × (length into.old ≡ 256) }
-    ensures { FirstAre (flat_into (limits_of limits) n own.now bits.now lowers.now highers.now
-        regions.now firsts.now seconds.now links chosen.now joined.now parts.now) n
+pub fn into_flat(limits: Limits, t: &Tables, g: &Groups, into: &mut [u32; 256])
+    requires { (limits.most_spans ≤ 16) × Safe t.now.n t.now.own.now t.now.bits.now t.now.firsts.now t.now.seconds.now t.now.links × (length into.old ≡ 256) }
+    ensures { FirstAre (flat_into (limits_of limits) t.now.n t.now.own.now t.now.bits.now t.now.lowers.now t.now.highers.now
+        t.now.regions.now t.now.firsts.now t.now.seconds.now t.now.links g.now.chosen.now g.now.joined.now g.now.parts.now) t.now.n
         into.new }
 {
-    let mut i: usize = 0;
-    while i < n {
-        into[i] = one_flat(
-            limits, n, own, bits, lowers, highers, regions, firsts, seconds, links, chosen, joined,
-            parts, into, i,
-        );
-        i += 1;
+    for i in 0..t.n {
+        into[i] = one_flat(limits, t, g, into, i);
     }
 }
 
@@ -190,9 +126,7 @@ pub fn combine(n: usize, serial: &[u32; 256], flat: &[u32; 256], plan: &mut [u32
     requires { (n ≤ 256) × (length plan.old ≡ 256) }
     ensures { FirstAre (λ i. goes_to (at serial.now i) (at flat.now i) i) n plan.new }
 {
-    let mut i: usize = 0;
-    while i < n {
+    for i in 0..n {
         plan[i] = goes_to(serial[i], flat[i], i as u32);
-        i += 1;
     }
 }

@@ -9,75 +9,41 @@ ghost use Rattle.serial_plan.specs.Fitting.{Safe};
 use crate::accept::{accepts_flat, accepts_serial};
 use crate::gather::{links_of, ranks_of};
 use crate::retain::representative;
+use crate::tables::{Groups, Tables};
 use serial_links::limits::Limits;
 
 // The retained rank of the serial group of part c, 256 if the rules refuse it.
-pub fn judge_serial(
-    limits: Limits,
-    n: usize,
-    own: &[u32; 1024],
-    bits: &[u64; 256],
-    lowers: &[u32; 256],
-    highers: &[u32; 256],
-    regions: &[u32; 256],
-    firsts: &[u32; 256],
-    seconds: &[u32; 256],
-    links: usize,
-    passing: &[u8; 256],
-    chosen: &[u8; 256],
-    joined: &[u8; 256],
-    parts: &[u32; 256],
-    c: u32,
-) -> usize
-    requires { (limits.most_spans ≤ 16) × Safe n own.now bits.now firsts.now seconds.now links }
+pub fn judge_serial(limits: Limits, t: &Tables, passing: &[u8; 256], g: &Groups, c: u32) -> usize
+    requires { (limits.most_spans ≤ 16) × Safe t.now.n t.now.own.now t.now.bits.now t.now.firsts.now t.now.seconds.now t.now.links }
     ensures { (result ≡ cond
-        (serial_in (limits_of limits) own.now lowers.now highers.now regions.now firsts.now
-        seconds.now passing.now (ranks_in n joined.now parts.now c)
-        (numbers_in links chosen.now firsts.now parts.now c))
-        (retained_in (limits_of limits) own.now bits.now (ranks_in n joined.now parts.now c)) 256)
+        (serial_in (limits_of limits) t.now.own.now t.now.lowers.now t.now.highers.now t.now.regions.now t.now.firsts.now
+        t.now.seconds.now passing.now (ranks_in t.now.n g.now.joined.now g.now.parts.now c)
+        (numbers_in t.now.links g.now.chosen.now t.now.firsts.now g.now.parts.now c))
+        (retained_in (limits_of limits) t.now.own.now t.now.bits.now (ranks_in t.now.n g.now.joined.now g.now.parts.now c)) 256)
         × (result ≤ 256) }
 {
-    let ranks = ranks_of(n, joined, parts, c);
-    let found = links_of(links, chosen, firsts, seconds, parts, c);
-    if !accepts_serial(
-        limits, own, lowers, highers, regions, firsts, seconds, passing, ranks, found,
-    ) {
+    let ranks = ranks_of(t.n, g, c);
+    let found = links_of(t, g, c);
+    if !accepts_serial(limits, t, passing, ranks, found) {
         return 256;
     }
-    representative(limits, own, bits, ranks)
+    representative(limits, t.own, t.bits, ranks)
 }
 
 // The same of the flat group.
-pub fn judge_flat(
-    limits: Limits,
-    n: usize,
-    own: &[u32; 1024],
-    bits: &[u64; 256],
-    lowers: &[u32; 256],
-    highers: &[u32; 256],
-    regions: &[u32; 256],
-    firsts: &[u32; 256],
-    seconds: &[u32; 256],
-    links: usize,
-    chosen: &[u8; 256],
-    joined: &[u8; 256],
-    parts: &[u32; 256],
-    c: u32,
-) -> usize
-    requires { (limits.most_spans ≤ 16) × Safe n own.now bits.now firsts.now seconds.now links }
+pub fn judge_flat(limits: Limits, t: &Tables, g: &Groups, c: u32) -> usize
+    requires { (limits.most_spans ≤ 16) × Safe t.now.n t.now.own.now t.now.bits.now t.now.firsts.now t.now.seconds.now t.now.links }
     ensures { (result ≡ cond
-        (flat_in (limits_of limits) own.now lowers.now highers.now regions.now firsts.now
-        seconds.now (ranks_in n joined.now parts.now c)
-        (numbers_in links chosen.now firsts.now parts.now c))
-        (retained_in (limits_of limits) own.now bits.now (ranks_in n joined.now parts.now c)) 256)
+        (flat_in (limits_of limits) t.now.own.now t.now.lowers.now t.now.highers.now t.now.regions.now t.now.firsts.now
+        t.now.seconds.now (ranks_in t.now.n g.now.joined.now g.now.parts.now c)
+        (numbers_in t.now.links g.now.chosen.now t.now.firsts.now g.now.parts.now c))
+        (retained_in (limits_of limits) t.now.own.now t.now.bits.now (ranks_in t.now.n g.now.joined.now g.now.parts.now c)) 256)
         × (result ≤ 256) }
 {
-    let ranks = ranks_of(n, joined, parts, c);
-    let found = links_of(links, chosen, firsts, seconds, parts, c);
-    if !accepts_flat(
-        limits, own, lowers, highers, regions, firsts, seconds, ranks, found,
-    ) {
+    let ranks = ranks_of(t.n, g, c);
+    let found = links_of(t, g, c);
+    if !accepts_flat(limits, t, ranks, found) {
         return 256;
     }
-    representative(limits, own, bits, ranks)
+    representative(limits, t.own, t.bits, ranks)
 }

@@ -2,6 +2,7 @@
 #![tactic(auto)]
 
 pub mod few; // the first sixteen numbers of a list
+pub mod tables; // the arrays by rank and by link
 pub mod parts; // the connected parts of the chosen links
 pub mod gather; // the ranks and the links of a part
 pub mod path; // simple paths

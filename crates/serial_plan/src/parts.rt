@@ -4,6 +4,7 @@ ghost use Rattle.lists.specs.Rows.{at};
 ghost use Rattle.graph.specs.Parts.{join};
 ghost use Rattle.serial_plan.specs.Arrays.{part_from, joined_from, LinkRanks, FirstAre};
 
+use crate::tables::Tables;
 use wire::size;
 
 fn smaller(a: u32, b: u32) -> u32
@@ -29,10 +30,8 @@ pub fn start(parts: &mut [u32; 256])
     requires { length parts.old ≡ 256 }
     ensures { FirstAre (λ i. i) 256 parts.new }
 {
-    let mut i: usize = 0;
-    while i < 256 {
+    for i in 0..256 {
         parts[i] = i as u32;
-        i += 1;
     }
 }
 
@@ -43,10 +42,8 @@ fn join_parts(parts: &mut [u32; 256], a: u32, b: u32)
 {
     let low = smaller(a, b);
     let high = larger(a, b);
-    let mut i: usize = 0;
-    while i < 256 {
+    for i in 0..256 {
         parts[i] = moved(parts[i], high, low);
-        i += 1;
     }
 }
 
@@ -65,21 +62,13 @@ fn join_link(parts: &mut [u32; 256], on: u8, first: u32, second: u32)
 }
 
 // The part of each rank, from the last chosen link to the first.
-pub fn connected_link_groups(
-    chosen: &[u8; 256],
-    firsts: &[u32; 256],
-    seconds: &[u32; 256],
-    links: usize,
-    parts: &mut [u32; 256],
-)
-    requires { (length parts.old ≡ 256) × LinkRanks 256 firsts.now seconds.now links }
-    ensures { FirstAre (part_from chosen.now firsts.now seconds.now 0 links) 256 parts.new }
+pub fn connected_link_groups(chosen: &[u8; 256], t: &Tables, parts: &mut [u32; 256])
+    requires { (length parts.old ≡ 256) × LinkRanks 256 t.now.firsts.now t.now.seconds.now t.now.links }
+    ensures { FirstAre (part_from chosen.now t.now.firsts.now t.now.seconds.now 0 t.now.links) 256 parts.new }
 {
     start(parts);
-    let mut k = links;
-    while 0 < k {
-        k -= 1;
-        join_link(parts, chosen[k], firsts[k], seconds[k]);
+    for k in (0..t.links).rev() {
+        join_link(parts, chosen[k], t.firsts[k], t.seconds[k]);
     }
 }
 
@@ -96,21 +85,13 @@ fn mark_link(joined: &mut [u8; 256], on: u8, first: u32, second: u32)
 }
 
 // 1 for each rank that one of the chosen links joins, 0 for every other.
-pub fn mark_joined(
-    chosen: &[u8; 256],
-    firsts: &[u32; 256],
-    seconds: &[u32; 256],
-    links: usize,
-    joined: &mut [u8; 256],
-)
-    requires { LinkRanks 256 firsts.now seconds.now links }
-    ensures { FirstAre (λ i. cond (joined_from chosen.now firsts.now seconds.now 0 links i) 1 0) 256
+pub fn mark_joined(chosen: &[u8; 256], t: &Tables, joined: &mut [u8; 256])
+    requires { LinkRanks 256 t.now.firsts.now t.now.seconds.now t.now.links }
+    ensures { FirstAre (λ i. cond (joined_from chosen.now t.now.firsts.now t.now.seconds.now 0 t.now.links i) 1 0) 256
         joined.new }
 {
     *joined = [0u8; 256];
-    let mut k = links;
-    while 0 < k {
-        k -= 1;
-        mark_link(joined, chosen[k], firsts[k], seconds[k]);
+    for k in (0..t.links).rev() {
+        mark_link(joined, chosen[k], t.firsts[k], t.seconds[k]);
     }
 }

@@ -10,6 +10,7 @@ ghost use Rattle.serial_plan.specs.Shape.{ends_in, regular_in, outer_in, path_in
 ghost use Rattle.serial_plan.specs.Fitting.{Slots};
 
 use crate::few::Few;
+use crate::tables::Tables;
 use context::pairs::other_region;
 use serial_links::limits::{GroupSize, Limits};
 use wire::size;
@@ -44,46 +45,40 @@ impl Near {
 }
 
 // The links that join rank i.
-fn links_at(firsts: &[u32; 256], seconds: &[u32; 256], links: Few, i: u32) -> Near
+fn links_at(t: &Tables, links: Few, i: u32) -> Near
     requires { (links.count ≤ 256) × Slots 256 links }
-    ensures { result ≡ near (keep (joins_at firsts.now seconds.now i) (few_list links)) }
+    ensures { result ≡ near (keep (joins_at t.now.firsts.now t.now.seconds.now i) (few_list links)) }
 {
     let mut found = Near { count: 0, first: 0 };
-    let mut j = links.count;
-    while 0 < j {
-        j -= 1;
+    for j in (0..links.count).rev() {
         let k = links.index(j);
-        found = found.with(links.get(j), joins(firsts[k], seconds[k], i));
+        found = found.with(links.get(j), joins(t.firsts[k], t.seconds[k], i));
     }
     found
 }
 
 // The ranks that one link joins.
-pub fn group_end_nodes(firsts: &[u32; 256], seconds: &[u32; 256], ranks: Few, links: Few) -> Few
+pub fn group_end_nodes(t: &Tables, ranks: Few, links: Few) -> Few
     requires { (ranks.count ≤ 256) × (links.count ≤ 256) × Slots 256 links }
-    ensures { result ≡ few_of (ends_in firsts.now seconds.now (few_list ranks) (few_list links)) }
+    ensures { result ≡ few_of (ends_in t.now.firsts.now t.now.seconds.now (few_list ranks) (few_list links)) }
 {
     let mut found = Few::none();
-    let mut j = ranks.count;
-    while 0 < j {
-        j -= 1;
+    for j in (0..ranks.count).rev() {
         let i = ranks.get(j);
-        let near = links_at(firsts, seconds, links, i);
+        let near = links_at(t, links, i);
         found = found.with(i, near.count == 1);
     }
     found
 }
 
 // One link or two join each rank.
-fn regular(firsts: &[u32; 256], seconds: &[u32; 256], ranks: Few, links: Few) -> bool
+fn regular(t: &Tables, ranks: Few, links: Few) -> bool
     requires { (links.count ≤ 256) × Slots 256 links }
-    ensures { result ≡ regular_in firsts.now seconds.now (few_list ranks) (few_list links) }
+    ensures { result ≡ regular_in t.now.firsts.now t.now.seconds.now (few_list ranks) (few_list links) }
 {
     let mut all = true;
-    let mut j = ranks.count;
-    while 0 < j {
-        j -= 1;
-        let near = links_at(firsts, seconds, links, ranks.get(j));
+    for j in (0..ranks.count).rev() {
+        let near = links_at(t, links, ranks.get(j));
         all = ((1 <= near.count) & (near.count <= 2)) & all;
     }
     all
@@ -95,55 +90,35 @@ pub fn all_on(marks: &[u8; 256], links: Few) -> bool
     ensures { result ≡ every (is_on marks.now) (few_list links) }
 {
     let mut all = true;
-    let mut j = links.count;
-    while 0 < j {
-        j -= 1;
+    for j in (0..links.count).rev() {
         all = (marks[links.index(j)] == 1) & all;
     }
     all
 }
 
 // The region on the other side of an end.
-fn outer(
-    lowers: &[u32; 256],
-    highers: &[u32; 256],
-    regions: &[u32; 256],
-    firsts: &[u32; 256],
-    seconds: &[u32; 256],
-    links: Few,
-    i: u32,
-) -> u32
+fn outer(t: &Tables, links: Few, i: u32) -> u32
     requires { (links.count ≤ 256) × Slots 256 links × (i < 256) }
-    ensures { result ≡ outer_in lowers.now highers.now regions.now firsts.now seconds.now
+    ensures { result ≡ outer_in t.now.lowers.now t.now.highers.now t.now.regions.now t.now.firsts.now t.now.seconds.now
         (few_list links)
         i }
 {
-    let near = links_at(firsts, seconds, links, i);
+    let near = links_at(t, links, i);
     let at = i as usize;
-    other_region(lowers[at], highers[at], regions[size(near.first)])
+    other_region(t.lowers[at], t.highers[at], t.regions[size(near.first)])
 }
 
 // A path of at least so many ranks and at most the limit's, whose outer regions differ.
-pub fn group_is_simple_path(
-    limits: Limits,
-    least: u32,
-    lowers: &[u32; 256],
-    highers: &[u32; 256],
-    regions: &[u32; 256],
-    firsts: &[u32; 256],
-    seconds: &[u32; 256],
-    ranks: Few,
-    links: Few,
-) -> bool
+pub fn group_is_simple_path(limits: Limits, least: u32, t: &Tables, ranks: Few, links: Few) -> bool
     requires { (ranks.count ≤ 256) × (links.count ≤ 256) × Slots 256 ranks × Slots 256 links }
-    ensures { result ≡ path_in lowers.now highers.now regions.now firsts.now seconds.now least
+    ensures { result ≡ path_in t.now.lowers.now t.now.highers.now t.now.regions.now t.now.firsts.now t.now.seconds.now least
         (limits_of limits).most_spans (few_list ranks) (few_list links) }
 {
     let size = GroupSize { spans: ranks.count };
-    let two = group_end_nodes(firsts, seconds, ranks, links);
-    let one = outer(lowers, highers, regions, firsts, seconds, links, two.get(0));
-    let other = outer(lowers, highers, regions, firsts, seconds, links, two.get(1));
-    let whole = regular(firsts, seconds, ranks, links);
+    let two = group_end_nodes(t, ranks, links);
+    let one = outer(t, links, two.get(0));
+    let other = outer(t, links, two.get(1));
+    let whole = regular(t, ranks, links);
     let path = ((links.count + 1 == ranks.count) & (two.count == 2)) & whole;
     (size.allowed(least, limits) & path) & (one != other)
 }

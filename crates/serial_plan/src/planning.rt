@@ -7,6 +7,7 @@ ghost use Rattle.serial_plan.specs.Listed.{PlanInput};
 ghost use Rattle.serial_plan.specs.Planned.{LinksFrom, PlanFrom};
 
 use crate::merge::merge_plan;
+use crate::tables::Tables;
 use context::anchored::anchor_labels;
 use serial_candidates::candidate_links;
 use serial_links::limits::Limits;
@@ -163,8 +164,16 @@ pub fn plan_merges(
         &mut passing,
         &mut flat,
     );
-    merge_plan(
-        limits, n, own, bits, &lowers, &highers, &regions, &firsts, &seconds, links, marks,
-        &passing, &flat, into,
-    );
+    let t = Tables {
+        n,
+        own,
+        bits,
+        lowers: &lowers,
+        highers: &highers,
+        links,
+        regions: &regions,
+        firsts: &firsts,
+        seconds: &seconds,
+    };
+    merge_plan(limits, &t, marks, &passing, &flat, into);
 }

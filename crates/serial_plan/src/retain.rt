@@ -30,10 +30,9 @@ fn least_bits(bits: &[u64; 256], ranks: Few) -> u64
     requires { (1 ≤ ranks.count) × Widths bits.now ranks }
     ensures { (result ≡ least_in bits.now (few_list ranks)) × (result ≤ 0x40D0_0000_0000_0000) }
 {
-    let mut j = ranks.count - 1;
-    let mut least = bits[ranks.index(j)];
-    while 0 < j {
-        j -= 1;
+    let last = ranks.count - 1;
+    let mut least = bits[ranks.index(last)];
+    for j in (0..last).rev() {
         least = lesser(bits[ranks.index(j)], least);
     }
     least
@@ -55,9 +54,7 @@ fn eligible(limits: Limits, bits: &[u64; 256], least: f64, ranks: Few) -> Few
     ensures { result ≡ few_of (keep (fine_in (limits_of limits) bits.now least) (few_list ranks)) }
 {
     let mut found = Few::none();
-    let mut j = ranks.count;
-    while 0 < j {
-        j -= 1;
+    for j in (0..ranks.count).rev() {
         found = found.with(
             ranks.get(j),
             is_eligible(limits, bits, least, ranks.index(j)),
@@ -72,10 +69,8 @@ fn sum_from(own: &[u32; 1024], ranks: Few, i: usize) -> Length
     ensures { (result ≡ sum_total_in own.now (few_list ranks) i) × Number result.value }
 {
     let mut total = rank_distance(own, i, ranks.index(0));
-    let mut j: u32 = 1;
-    while j < ranks.count {
+    for j in 1..ranks.count {
         total = plus(total, rank_distance(own, i, ranks.index(j)));
-        j += 1;
     }
     total
 }
@@ -95,10 +90,9 @@ fn nearest(own: &[u32; 1024], ranks: Few, among: Few) -> usize
     requires { (1 ≤ ranks.count) × (1 ≤ among.count) × RanksFit own.now ranks × RanksFit own.now among }
     ensures { (result ≡ get_or (sort (nearer_in own.now (few_list ranks)) (few_list among)) 0 0) × (result < 256) }
 {
-    let mut j = among.count - 1;
-    let mut best = among.index(j);
-    while 0 < j {
-        j -= 1;
+    let last = among.count - 1;
+    let mut best = among.index(last);
+    for j in (0..last).rev() {
         best = nearer(own, ranks, among.index(j), best);
     }
     best

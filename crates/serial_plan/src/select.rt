@@ -7,6 +7,7 @@ ghost use Rattle.serial_plan.specs.Shape.{both_on, flat_link_in};
 ghost use Rattle.serial_plan.specs.Fitting.{RankFits, LinkFits};
 
 use crate::alike::alike;
+use crate::tables::Tables;
 use serial_links::limits::Limits;
 use wire::size;
 
@@ -25,21 +26,13 @@ fn both_on(marks: &[u8; 256], first: usize, second: usize) -> bool
 }
 
 // Marks the links of which both ranks are bridges.
-pub fn select_serial(
-    marks: &[u8; 256],
-    firsts: &[u32; 256],
-    seconds: &[u32; 256],
-    links: usize,
-    chosen: &mut [u8; 256],
-)
-    requires { (length chosen.old ≡ 256) × LinkRanks 256 firsts.now seconds.now links }
-    ensures { FirstAre (λ k. cond (both_on marks.now (at firsts.now k) (at seconds.now k)) 1 0) links
+pub fn select_serial(marks: &[u8; 256], t: &Tables, chosen: &mut [u8; 256])
+    requires { (length chosen.old ≡ 256) × LinkRanks 256 t.now.firsts.now t.now.seconds.now t.now.links }
+    ensures { FirstAre (λ k. cond (both_on marks.now (at t.now.firsts.now k) (at t.now.seconds.now k)) 1 0) t.now.links
         chosen.new }
 {
-    let mut k: usize = 0;
-    while k < links {
-        chosen[k] = mark(both_on(marks, size(firsts[k]), size(seconds[k])));
-        k += 1;
+    for k in 0..t.links {
+        chosen[k] = mark(both_on(marks, size(t.firsts[k]), size(t.seconds[k])));
     }
 }
 
@@ -71,29 +64,24 @@ fn is_flat_link(
 // Marks the links that flat groups are made of.
 pub fn select_flat(
     limits: Limits,
-    own: &[u32; 1024],
+    t: &Tables,
     flat: &[u8; 256],
     into: &[u32; 256],
-    firsts: &[u32; 256],
-    seconds: &[u32; 256],
-    links: usize,
     chosen: &mut [u8; 256],
 )
-    requires { (length chosen.old ≡ 256) × (links ≤ 256) × ((k : ℕ) → k < links → LinkFits own.now firsts.now seconds.now k) }
+    requires { (length chosen.old ≡ 256) × (t.now.links ≤ 256) × ((k : ℕ) → k < t.now.links → LinkFits t.now.own.now t.now.firsts.now t.now.seconds.now k) }
     ensures { FirstAre (λ k. cond
-        (flat_link_in (limits_of limits) own.now into.now (at flat.now k) (at firsts.now k)
-        (at seconds.now k)) 1 0) links chosen.new }
+        (flat_link_in (limits_of limits) t.now.own.now into.now (at flat.now k) (at t.now.firsts.now k)
+        (at t.now.seconds.now k)) 1 0) t.now.links chosen.new }
 {
-    let mut k: usize = 0;
-    while k < links {
+    for k in 0..t.links {
         chosen[k] = mark(is_flat_link(
             limits,
-            own,
+            t.own,
             flat[k],
             into,
-            size(firsts[k]),
-            size(seconds[k]),
+            size(t.firsts[k]),
+            size(t.seconds[k]),
         ));
-        k += 1;
     }
 }

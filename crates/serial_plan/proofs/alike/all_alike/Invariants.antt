@@ -1,0 +1,11 @@
+use Prim.Native.Nat.{◌-◌, ◌≤◌}
+use Rattle.serial_links.specs.HeldLimits.{limits_of}
+use Rattle.order.specs.Tests.{every}
+use Rattle.serial_plan.specs.Shape.{alike_in}
+use Rattle.serial_plan.specs.Few.{few_at, few_list}
+use Rattle.serial_plan.proofs.ShapeLaws.{Each}
+use Rattle.serial_plan.proofs.alike.all_alike.Given as goal
+
+abbrev pub invariant-loop-j : goal.invariant-loop-j
+invariant-loop-j l =
+    (l.j ≤ l.ranks.count) × Each (λ i. every (alike_in (limits_of l.limits) l.own i) (few_list l.ranks)) (few_at l.ranks) l.ranks.count l.j l.all

@@ -1,0 +1,18 @@
+use Prim.Native.Nat.{◌-◌}
+use native.Mathlib.Omega.{arith}
+use Rattle.serial_plan.proofs.ArrayLaws.{filled_next}
+use Rattle.serial_plan.proofs.into.into_flat.Goals as goal
+
+pub one_flat-requires : goal.one_flat-requires
+one_flat-requires c =
+    (c.requires.0, c.requires.1, omega (arith, c.loop-i-test.true, c.requires.1.fit.few), c.loop-i.invariant.1)
+
+pub bounds-into-i : goal.bounds-into-i
+bounds-into-i c =
+    omega (arith, c.loop-i-test.true, c.requires.1.fit.few, c.loop-i.invariant.1.size)
+
+pub loop-i-preserved : goal.loop-i-preserved
+loop-i-preserved c = (
+  omega (arith, c.loop-i-test.true),
+  filled_next c.one_flat.result c.loop-i.invariant.1 (omega (arith, c.loop-i-test.true, c.requires.1.fit.few)) c.one_flat.ensures,
+)
