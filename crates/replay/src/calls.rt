@@ -1,156 +1,137 @@
 // A recorded call: slices filled with a byte are lent to it, and what it leaves is compared.
-ghost use Rattle.std.specs.Prelude.{◌≡◌, ◌<◌, ◌≤◌, length};
+ghost use Rattle.std.specs.Prelude.{◌≡◌, ◌<◌, ◌≤◌, IfOk, IsOk};
 
-use crate::compare::{NOT_WHOLE, difference};
-use crate::pieces::{expand, fill};
+use crate::compare::{Fault, Left, compare};
+use crate::input::Input;
+use crate::pieces::{expand, expand_all};
 use analysis::ChokesResult;
-use wire::{read_u32, read_u64, size};
+use std::fmt;
+use wire::{read_u32, read_u64};
 
-// The numbers of the calls.
-pub const REDUCE: u8 = 0;
+// Numbers that a call may end with.
+pub const NUMBERS: u32 = 33;
 
-pub const REDUCE_BY_LIST: u8 = 1;
-
-pub const MARK: u8 = 2;
-
-pub const AREA_CARDS: u8 = 3;
+// The most bytes of work, and of the answer.
+const MOST: usize = 65536;
 
 // Bytes before those of work.
 const FIELDS: usize = 22;
 
-// The call, its number, and in what it differs.
+#[derive(Clone, Copy, Debug, PartialEq, Eq)]
+pub enum Call {
+    Reduce,
+    ReduceByList,
+    Mark,
+    AreaCards,
+}
+
+impl fmt::Display for Call {
+    fn fmt<W: fmt::Write>(&self, f: &mut fmt::Formatter<W>) -> fmt::Result {
+        f.write_str(match self {
+            Call::Reduce => "reduce",
+            Call::ReduceByList => "reduce by list",
+            Call::Mark => "mark",
+            Call::AreaCards => "area cards",
+        })
+    }
+}
+
+impl Call {
+    fn make(self, input: Input, work: &mut [u8], out: &mut [u8]) -> ChokesResult {
+        let Input {
+            job,
+            list,
+            thresholds,
+        } = input;
+        match self {
+            Call::Reduce => chokes::chokes_reduce(job, thresholds, work, out),
+            Call::ReduceByList => chokes::chokes_reduce_by_list(job, list, thresholds, work, out),
+            Call::Mark => chokes::chokes_mark(job, work, out),
+            Call::AreaCards => chokes::chokes_area_cards(job, work, out),
+        }
+    }
+}
+
+// The record of a call: how many bytes of work and of answer are lent to it, the byte that fills
+// them, and what it must leave, of work and answer the pieces.
 #[derive(Clone, Copy)]
-pub struct Outcome {
-    pub kind: u8,
-    pub number: u32,
-    pub difference: u32,
+struct Record<'a> {
+    work: usize,
+    out: usize,
+    byte: u8,
+    number: u32,
+    detail: u64,
+    pieces: &'a [u8],
 }
 
-fn make(
-    kind: u8,
-    job: &[u8],
-    list: &[u8],
-    thresholds: &[u8],
-    work: &mut [u8],
-    out: &mut [u8],
-) -> ChokesResult {
-    if kind == REDUCE {
-        return chokes::chokes_reduce(job, thresholds, work, out);
-    }
-    if kind == REDUCE_BY_LIST {
-        return chokes::chokes_reduce_by_list(job, list, thresholds, work, out);
-    }
-    if kind == MARK {
-        return chokes::chokes_mark(job, work, out);
-    }
-    chokes::chokes_area_cards(job, work, out)
-}
-
-// Fills the slices that are lent, and the others with what was recorded; false where the item is
-// not whole.
-fn prepare(
-    item: &[u8],
-    work: &mut [u8],
-    out: &mut [u8],
-    want_work: &mut [u8],
-    want_out: &mut [u8],
-) -> bool
-    requires { 22 ≤ length item.now }
+fn read_record(item: &[u8]) -> Result<Record<'_>, Fault>
+    ensures { IfOk result (λ r. (r.work ≤ 65536) × (r.out ≤ 65536) × (r.number < 33)) }
 {
-    let byte = item[9];
-    fill(work, byte);
-    fill(out, byte);
-    let at = expand(item, FIELDS, want_work, want_work.len());
-    if at == 0 {
-        return false;
-    }
-    let end = expand(item, at, want_out, want_out.len());
-    end == item.len()
-}
-
-// Makes the call of an item on slices of the lengths that were recorded; gives what differs.
-fn run(
-    item: &[u8],
-    job: &[u8],
-    list: &[u8],
-    thresholds: &[u8],
-    work: &mut [u8],
-    out: &mut [u8],
-    want_work: &mut [u8],
-    want_out: &mut [u8],
-) -> u32
-    requires { 22 ≤ length item.now }
-    ensures { result ≡ 0 → (work.new ≡ want_work.new) × (out.new ≡ want_out.new) }
-{
-    let kind = item[0];
-    let number = read_u32(item, 10);
-    let detail = read_u64(item, 14);
-    if !prepare(item, work, out, want_work, want_out) {
-        return NOT_WHOLE;
-    }
-    let r = make(kind, job, list, thresholds, work, out);
-    difference(
-        r.number, r.detail, work, out, number, detail, want_work, want_out,
-    )
-}
-
-// Makes the call of an item on slices of these lengths; gives what differs.
-fn run_in(item: &[u8], job: &[u8], list: &[u8], thresholds: &[u8], w: usize, o: usize) -> u32
-    requires { 22 ≤ length item.now }
-{
-    let mut work = [0u8; 65536];
-    let mut out = [0u8; 65536];
-    let mut want_work = [0u8; 65536];
-    let mut want_out = [0u8; 65536];
-    if 65536 < w {
-        return NOT_WHOLE;
-    }
-    if 65536 < o {
-        return NOT_WHOLE;
-    }
-    run(
-        item,
-        job,
-        list,
-        thresholds,
-        &mut work[..w],
-        &mut out[..o],
-        &mut want_work[..w],
-        &mut want_out[..o],
-    )
-}
-
-// Makes the call of an item and compares.
-pub fn replay_call(item: &[u8], job: &[u8], list: &[u8], thresholds: &[u8]) -> Outcome
-    ensures { (result.kind < 4) × (result.number < 33) }
-{
-    let none = Outcome {
-        kind: 0,
-        number: 0,
-        difference: NOT_WHOLE,
-    };
     if item.len() < FIELDS {
-        return none;
+        return Err(Fault::NotWhole);
     }
-    let kind = item[0];
+    let work = read_u32(item, 1) as usize;
+    let out = read_u32(item, 5) as usize;
     let number = read_u32(item, 10);
-    if AREA_CARDS < kind {
-        return none;
+    if NUMBERS <= number || MOST < work || MOST < out {
+        return Err(Fault::NotWhole);
     }
-    if 32 < number {
-        return none;
-    }
-    let d = run_in(
-        item,
-        job,
-        list,
-        thresholds,
-        size(read_u32(item, 1)),
-        size(read_u32(item, 5)),
-    );
-    Outcome {
-        kind,
+    Ok(Record {
+        work,
+        out,
+        byte: item[9],
         number,
-        difference: d,
-    }
+        detail: read_u64(item, 14),
+        pieces: &item[FIELDS..],
+    })
+}
+
+// Makes a call; an error where it doesn't leave what is wanted.
+fn run(call: Call, input: Input, work: &mut [u8], out: &mut [u8], want: &Left) -> Result<(), Fault>
+    ensures { IsOk result → (work.new ≡ want.now.work.now) × (out.new ≡ want.now.out.now) }
+{
+    let r = call.make(input, work, out);
+    let left = Left {
+        number: r.number,
+        detail: r.detail,
+        work,
+        out,
+    };
+    compare(&left, want)
+}
+
+// Makes a call on slices of the lengths that were recorded, filled with the byte.
+fn run_in(call: Call, input: Input, record: &Record, want: &Left) -> Result<(), Fault>
+    requires { (record.now.work ≤ 65536) × (record.now.out ≤ 65536) }
+{
+    let mut work = [record.byte; MOST];
+    let mut out = [record.byte; MOST];
+    run(
+        call,
+        input,
+        &mut work[..record.work],
+        &mut out[..record.out],
+        want,
+    )
+}
+
+// Makes the call of an item and compares; gives the number that it ended with.
+pub fn replay_call(call: Call, item: &[u8], input: Input) -> Result<u32, Fault>
+    ensures { IfOk result (λ number. number < 33) }
+{
+    let record = read_record(item)?;
+    let mut work = [0; MOST];
+    let work = &mut work[..record.work];
+    let mut out = [0; MOST];
+    let out = &mut out[..record.out];
+    let rest = expand(record.pieces, work)?;
+    expand_all(rest, out)?;
+    let want = Left {
+        number: record.number,
+        detail: record.detail,
+        work,
+        out,
+    };
+    run_in(call, input, &record, &want)?;
+    Ok(record.number)
 }

@@ -1,52 +1,80 @@
 // What a call left beside what was recorded, and what else ends a replay.
-ghost use Rattle.std.specs.Prelude.{◌≡◌};
+ghost use Rattle.std.specs.Prelude.{◌↔◌, IsOk};
 ghost use Rattle.replay.specs.Same.{Same};
 
-pub const SAME: u32 = 0;
+use std::{fmt, io};
 
-pub const OTHER_NUMBER: u32 = 1;
+// In what a call differs from the record of it, or what is wrong with the list there.
+#[derive(Clone, Copy, Debug, PartialEq, Eq)]
+pub enum Fault {
+    OtherNumber,
+    OtherDetail,
+    OtherWork,
+    OtherAnswer,
+    CutOff,
+    TooLong,
+    NotWhole,
+}
 
-pub const OTHER_DETAIL: u32 = 2;
+impl fmt::Display for Fault {
+    fn fmt<W: fmt::Write>(&self, f: &mut fmt::Formatter<W>) -> fmt::Result {
+        f.write_str(match self {
+            Fault::OtherNumber => "other number",
+            Fault::OtherDetail => "other detail",
+            Fault::OtherWork => "other work",
+            Fault::OtherAnswer => "other answer",
+            Fault::CutOff => "the list is cut off",
+            Fault::TooLong => "an item too long",
+            Fault::NotWhole => "an item that is not whole",
+        })
+    }
+}
 
-pub const OTHER_WORK: u32 = 3;
+// What ends a replay before the list does.
+#[derive(Debug, Drop)]
+pub enum Stop {
+    Fault(Fault),
+    Stream(io::Error),
+}
 
-pub const OTHER_ANSWER: u32 = 4;
+impl From<Fault> for Stop {
+    fn from(fault: Fault) -> Stop {
+        Stop::Fault(fault)
+    }
+}
 
-pub const NOT_WHOLE: u32 = 5;
+impl From<io::Error> for Stop {
+    fn from(error: io::Error) -> Stop {
+        Stop::Stream(error)
+    }
+}
 
-pub const CUT_OFF: u32 = 6;
+// What a call leaves: its number and detail, work, and the answer, marks or cards.
+#[derive(Clone, Copy)]
+pub struct Left<'a> {
+    pub number: u32,
+    pub detail: u64,
+    pub work: &'a [u8],
+    pub out: &'a [u8],
+}
 
-pub const TOO_LONG: u32 = 7;
-
-pub const AT_END: u32 = 8;
-
-// SAME just where number, detail, work and answer, marks or cards are those that were recorded.
-pub fn difference(
-    number: u32,
-    detail: u64,
-    work: &[u8],
-    out: &[u8],
-    want_number: u32,
-    want_detail: u64,
-    want_work: &[u8],
-    want_out: &[u8],
-) -> u32
-    ensures { (result ≡ 0 → Same number detail work.now out.now want_number want_detail want_work.now
-        want_out.now)
-        × (Same number detail work.now out.now want_number want_detail want_work.now want_out.now
-        → result ≡ 0) }
+// Ok just where all is as it was recorded.
+pub fn compare(left: &Left, want: &Left) -> Result<(), Fault>
+    ensures { IsOk result
+        ↔ Same left.now.number left.now.detail left.now.work.now left.now.out.now want.now.number
+        want.now.detail want.now.work.now want.now.out.now }
 {
-    if number != want_number {
-        return OTHER_NUMBER;
+    if left.number != want.number {
+        return Err(Fault::OtherNumber);
     }
-    if detail != want_detail {
-        return OTHER_DETAIL;
+    if left.detail != want.detail {
+        return Err(Fault::OtherDetail);
     }
-    if !check::same(work, want_work) {
-        return OTHER_WORK;
+    if left.work != want.work {
+        return Err(Fault::OtherWork);
     }
-    if !check::same(out, want_out) {
-        return OTHER_ANSWER;
+    if left.out != want.out {
+        return Err(Fault::OtherAnswer);
     }
-    SAME
+    Ok(())
 }

@@ -1,46 +1,77 @@
 // An input: the job, the list and the block of thresholds that the calls after it are made on.
-ghost use Rattle.std.specs.Prelude.{◌+◌, ◌≤◌, length};
+ghost use Rattle.std.specs.Prelude.{◌+◌, ◌≤◌};
 
-use crate::pieces::expand;
-use wire::{read_u32, size};
+use crate::compare::Fault;
+use crate::pieces::expand_all;
+use wire::read_u32;
 
 // Bytes before those of the job.
 const FIELDS: usize = 13;
 
-// The lengths of the job, of the list behind it and of the block behind that, and whether the item
-// was whole.
+// The most bytes of an input.
+const MOST: usize = 65536;
+
 #[derive(Clone, Copy)]
-pub struct Input {
-    pub job: usize,
-    pub list: usize,
-    pub thresholds: usize,
-    pub whole: bool,
+pub struct Input<'a> {
+    pub job: &'a [u8],
+    pub list: &'a [u8],
+    pub thresholds: &'a [u8],
 }
 
-pub fn read_input(item: &[u8], held: &mut [u8]) -> Input
-    ensures { result.job + result.list + result.thresholds ≤ length held.new }
-{
-    let none = Input {
-        job: 0,
-        list: 0,
-        thresholds: 0,
-        whole: false,
-    };
-    if item.len() < FIELDS {
-        return none;
+// The lengths of an input's parts.
+#[derive(Clone, Copy)]
+struct Lengths {
+    job: usize,
+    list: usize,
+    thresholds: usize,
+    ghost fits: { job + list + thresholds ≤ 65536 },
+}
+
+// The input that was read last: its parts, one behind another, and their lengths.
+#[derive(Drop)]
+pub struct Held {
+    bytes: [u8; MOST],
+    lengths: Lengths,
+}
+
+impl Held {
+    pub fn empty() -> Held {
+        Held {
+            bytes: [0; MOST],
+            lengths: Lengths {
+                job: 0,
+                list: 0,
+                thresholds: 0,
+            },
+        }
     }
-    let job = size(read_u32(item, 1));
-    let list = size(read_u32(item, 5));
-    let thresholds = size(read_u32(item, 9));
-    let all = job + list + thresholds;
-    if held.len() < all {
-        return none;
+
+    pub fn read(&mut self, item: &[u8]) -> Result<(), Fault> {
+        if item.len() < FIELDS {
+            return Err(Fault::NotWhole);
+        }
+        let job = read_u32(item, 1) as usize;
+        let list = read_u32(item, 5) as usize;
+        let thresholds = read_u32(item, 9) as usize;
+        let all = job + list + thresholds;
+        if MOST < all {
+            return Err(Fault::NotWhole);
+        }
+        self.lengths = Lengths {
+            job,
+            list,
+            thresholds,
+        };
+        expand_all(&item[FIELDS..], &mut self.bytes[..all])
     }
-    let end = expand(item, FIELDS, held, all);
-    Input {
-        job,
-        list,
-        thresholds,
-        whole: end == item.len(),
+
+    pub fn input(&self) -> Input<'_> {
+        let (job, rest) = self.bytes.split_at(self.lengths.job);
+        let (list, rest) = rest.split_at(self.lengths.list);
+        Input {
+            job,
+            list,
+            thresholds: &rest[..self.lengths.thresholds],
+        }
     }
 }

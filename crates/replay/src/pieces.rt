@@ -1,83 +1,68 @@
 // Bytes written as pieces: how many bytes a piece makes (two bytes), of how many it repeats (one
 // byte), and those.
-ghost use Rattle.std.specs.Prelude.{◌≡◌, ◌+◌, ◌<◌, ◌≤◌, length};
+ghost use Rattle.std.specs.Prelude.{◌<◌, ◌≤◌, IfSome, length};
 
-// Bytes of a piece before those that it repeats.
-const HEAD: usize = 3;
+use crate::compare::Fault;
 
-fn size(x: u8) -> usize
-    ensures { (result ≡ x) × (result < 256) }
-{
-    x as usize
-}
-
-// The bytes that a piece makes, and its own; both 0 where there is none that fits.
+// How many bytes a piece makes, those that it repeats, and what stands behind it.
 #[derive(Clone, Copy)]
-struct Piece {
+struct Piece<'a> {
     made: usize,
-    own: usize,
+    repeated: &'a [u8],
+    rest: &'a [u8],
 }
 
-// The piece at `at`, where it is whole and makes no more than `room`.
-fn piece_at(item: &[u8], at: usize, room: usize) -> Piece
-    requires { at ≤ length item.now }
-    ensures { (result.made ≤ room) × (at + result.own ≤ length item.now) }
+// The piece at the start of an item, where it is whole, repeats a byte or more, and makes one or
+// more and no more than `room`.
+fn first_piece(item: &[u8], room: usize) -> Option<Piece<'_>>
+    ensures made { IfSome result (λ p. (0 < p.made) × (p.made ≤ room)) }
+    ensures repeated { IfSome result (λ p. 0 < length p.repeated.now) }
 {
-    let none = Piece { made: 0, own: 0 };
-    if item.len() - at < HEAD {
-        return none;
+    let [low, high, count, rest @ ..] = item else {
+        return None;
+    };
+    let made = usize::from(u16::from_le_bytes([*low, *high]));
+    let count = usize::from(*count);
+    if made == 0 || room < made || count == 0 {
+        return None;
     }
-    let made = size(item[at]) + size(item[at + 1]) * 0x100;
-    if room < made {
-        return none;
-    }
-    let own = HEAD + size(item[at + 2]);
-    if item.len() - at < own {
-        return none;
-    }
-    Piece { made, own }
+    let (repeated, rest) = rest.split_at_checked(count)?;
+    Some(Piece {
+        made,
+        repeated,
+        rest,
+    })
 }
 
-pub fn fill(bytes: &mut [u8], byte: u8) {
-    let mut i = 0;
-    while i < bytes.len() {
-        bytes[i] = byte;
-        i += 1;
-    }
-}
-
-// Fills `count` bytes from `to` on with the n from `from` on, again and again.
-fn repeat(item: &[u8], from: usize, n: usize, bytes: &mut [u8], to: usize, count: usize)
-    requires { (0 < n) × (from + n ≤ length item.now) × (to + count ≤ length bytes.old) }
+// Fills bytes with the few, again and again.
+fn repeat(few: &[u8], bytes: &mut [u8])
+    requires { 0 < length few.now }
 {
-    let mut i = 0;
-    while i < count {
-        bytes[to + i] = item[from + i % n];
-        i += 1;
+    for (i, byte) in bytes.iter_mut().enumerate() {
+        *byte = few[i % few.len()];
     }
 }
 
-// Fills the first n bytes with the pieces from `at` on; gives where they end, or 0 where they make
-// too few or too many bytes.
-pub fn expand(item: &[u8], at: usize, bytes: &mut [u8], n: usize) -> usize
-    requires { (at ≤ length item.now) × (n ≤ length bytes.old) }
-    ensures { result ≤ length item.now }
-{
-    let mut from = at;
+// Fills bytes with the pieces at the start of an item, and gives what stands behind them; an error
+// where they make too few bytes or too many.
+pub fn expand<'a>(item: &'a [u8], bytes: &mut [u8]) -> Result<&'a [u8], Fault> {
+    let mut rest = item;
     let mut done = 0;
-    while done < n {
-        let p = piece_at(item, from, n - done);
-        let made = p.made;
-        let own = p.own;
-        if made == 0 {
-            return 0;
-        }
-        if own <= HEAD {
-            return 0;
-        }
-        repeat(item, from + HEAD, own - HEAD, bytes, done, made);
-        from += own;
-        done += made;
+    // While, not for: each piece makes as many bytes as it says.
+    while done < bytes.len() {
+        let piece = first_piece(rest, bytes.len() - done).ok_or(Fault::NotWhole)?;
+        repeat(piece.repeated, &mut bytes[done..done + piece.made]);
+        rest = piece.rest;
+        done += piece.made;
     }
-    from
+    Ok(rest)
+}
+
+// The same where nothing is to stand behind them.
+pub fn expand_all(item: &[u8], bytes: &mut [u8]) -> Result<(), Fault> {
+    if expand(item, bytes)?.is_empty() {
+        Ok(())
+    } else {
+        Err(Fault::NotWhole)
+    }
 }

@@ -1,57 +1,52 @@
 // Items of the list: each is its length, four bytes, and so many bytes, the first of which is its
 // kind.
-ghost use Rattle.std.specs.Prelude.{◌≡◌, ◌≤◌, IfOk, length};
+ghost use Rattle.std.specs.Prelude.{◌≡◌, ◌≤◌, IfOk, IfSome, length};
 
-use crate::compare::{AT_END, CUT_OFF, NOT_WHOLE, SAME, TOO_LONG};
-use std::io;
+use crate::calls::Call;
+use crate::compare::{Fault, Stop};
 use std::io::Read;
 use streams::read_full;
-use wire::{read_u32, size};
 
-#[derive(Clone, Copy)]
-pub struct Got {
-    pub state: u32,
-    pub bytes: usize,
-    pub kind: u8,
+#[derive(Clone, Copy, Debug, PartialEq, Eq)]
+pub enum Kind {
+    Call(Call),
+    Input,
 }
 
-fn failed(state: u32) -> Got
-    ensures { result.bytes ≡ 0 }
-{
-    Got {
-        state,
-        bytes: 0,
-        kind: 0,
+impl TryFrom<u8> for Kind {
+    type Error = Fault;
+
+    fn try_from(byte: u8) -> Result<Kind, Fault> {
+        match byte {
+            0 => Ok(Kind::Call(Call::Reduce)),
+            1 => Ok(Kind::Call(Call::ReduceByList)),
+            2 => Ok(Kind::Call(Call::Mark)),
+            3 => Ok(Kind::Call(Call::AreaCards)),
+            4 => Ok(Kind::Input),
+            _ => Err(Fault::NotWhole),
+        }
     }
 }
 
-// Reads the next item; its length is at most that of `item`.
-pub fn read_item(input: &mut impl Read, item: &mut [u8]) -> io::Result<Got>
-    ensures read { IfOk result (λ got. got.bytes ≤ length item.new) }
+// Reads the next item to the start of `item` and gives its length, or None at the list's end.
+pub fn read_item(list: &mut impl Read, item: &mut [u8]) -> Result<Option<usize>, Stop>
+    ensures read { IfOk result (λ got. IfSome got (λ n. n ≤ length item.new)) }
     ensures kept { length item.new ≡ length item.old }
 {
-    let mut head = [0u8; 4];
-    let got = read_full(input, &mut head)?;
+    let mut head = [0; 4];
+    let got = read_full(list, &mut head)?;
     if got == 0 {
-        return Ok(failed(AT_END));
+        return Ok(None);
     }
     if got < 4 {
-        return Ok(failed(CUT_OFF));
+        return Err(Stop::Fault(Fault::CutOff));
     }
-    let n = size(read_u32(&head, 0));
-    if n == 0 {
-        return Ok(failed(NOT_WHOLE));
-    }
+    let n = u32::from_le_bytes(head) as usize;
     if item.len() < n {
-        return Ok(failed(TOO_LONG));
+        return Err(Stop::Fault(Fault::TooLong));
     }
-    let came = read_full(input, &mut item[..n])?;
-    if came < n {
-        return Ok(failed(CUT_OFF));
+    if read_full(list, &mut item[..n])? < n {
+        return Err(Stop::Fault(Fault::CutOff));
     }
-    Ok(Got {
-        state: SAME,
-        bytes: n,
-        kind: item[0],
-    })
+    Ok(Some(n))
 }
