@@ -2,7 +2,9 @@
 use mathlib.Core.Path.{◌≡◌, refl, sym, ◌∙◌, ap}
 use mathlib.Core.Bool.{true, false}
 use mathlib.Core.List.{List}
-use mathlib.Core.Option.{none}
+use mathlib.Core.Option.{none, some}
+use Rattle.std.specs.Prelude.{Result, Ok, Err}
+use Rattle.std.specs.Result.{IsErrAnd}
 use Prim.Native.Nat.{ℕ, ◌*◌, ◌<◌, ◌≤◌}
 use native.Mathlib.Omega.{arith}
 use lib.ListN.{length}
@@ -13,12 +15,12 @@ use Rattle.format.specs.Decode.{decode}
 use Rattle.format.specs.declared.header.Header.{Header}
 use Rattle.checks.specs.Checks.{first_refusal}
 use Rattle.checks.specs.Passed.{Laid}
-use Rattle.checks.specs.Verdict.{meaning, passes, number_of}
-use Rattle.checks.specs.declared.verdict.Verdict.{Verdict}
-use Rattle.checks.specs.declared.verdict.Verdict.TheVariants.{Passed, JobTooShort, BadSides, TooManyRecords, TooManyBoundaries, BadLayout, BadCell}
-use Rattle.checks.specs.declared.verdict.Verdict.TheVariants.{AnchorOffMap}
-use Rattle.checks.specs.declared.verdict.Verdict.TheVariants.{BadSums, BadRamp, BadWidth, EndOffMap, EndsCoincide, BadListLength, TooManySpans}
-use Rattle.checks.specs.declared.verdict.Verdict.TheVariants.{SpanOffMap, SpanEndsCoincide, BadThresholds}
+use Rattle.checks.specs.Verdict.{meaning, refusal_of, counted}
+use Rattle.checks.specs.declared.refused.Refused.{Refused}
+use Rattle.checks.specs.declared.refused.Refused.TheVariants.{JobTooShort, BadSides, TooManyRecords, TooManyBoundaries, BadLayout, BadCell, AnchorOffMap}
+use Rattle.checks.specs.declared.refused.Refused.TheVariants.{BadSums, BadRamp, BadWidth, EndOffMap, EndsCoincide, TooManyPairs, BadListLength, TooManySpans}
+use Rattle.checks.specs.declared.refused.Refused.TheVariants.{SpanOffMap, SpanEndsCoincide, WorkTooShort, AnswerTooShort, MarksTooShort, SliceTooShort}
+use Rattle.checks.specs.declared.refused.Refused.TheVariants.{BadThresholds}
 use Rattle.checks_calls.specs.Refusals.{job_checks, boundary_checks, reduce_checks, by_list_checks, mark_checks}
 use Rattle.checks.proofs.Firsts.{none_left}
 use Rattle.checks.proofs.Limits.{cells-limit}
@@ -28,26 +30,39 @@ use Rattle.analysis.specs.Plans.{Headed, OwnJob}
 use Rattle.analysis.proofs.Headed.{headed-laid}
 use Rattle.analysis.proofs.Mapped.{map-cells, map-long}
 
--- each refusal of the input has a number
-pub numbered : (v : Verdict) → passes (meaning v) ≡ false → 0 < number_of (meaning v)
-numbered Passed e = let z : ◌≡◌ {A = ℕ} 0 1 = cc in absurd (omega arith)
-numbered JobTooShort e = omega arith
-numbered BadSides e = omega arith
-numbered TooManyRecords e = omega arith
-numbered (TooManyBoundaries n) e = omega arith
-numbered BadLayout e = omega arith
-numbered (BadCell i) e = omega arith
-numbered (AnchorOffMap i) e = omega arith
-numbered BadSums e = omega arith
-numbered (BadRamp i) e = omega arith
-numbered (BadWidth i) e = omega arith
-numbered (EndOffMap i) e = omega arith
-numbered (EndsCoincide i) e = omega arith
-numbered BadListLength e = omega arith
-numbered (TooManySpans n) e = omega arith
-numbered (SpanOffMap i) e = omega arith
-numbered (SpanEndsCoincide i) e = omega arith
-numbered BadThresholds e = omega arith
+-- each refusal has a number
+pub numbered : (e : Refused) → 0 < (refusal_of e).number
+numbered JobTooShort = omega arith
+numbered BadSides = omega arith
+numbered TooManyRecords = omega arith
+numbered (TooManyBoundaries n) = omega arith
+numbered BadLayout = omega arith
+numbered (BadCell i) = omega arith
+numbered (AnchorOffMap i) = omega arith
+numbered BadSums = omega arith
+numbered (BadRamp i) = omega arith
+numbered (BadWidth i) = omega arith
+numbered (EndOffMap i) = omega arith
+numbered (EndsCoincide i) = omega arith
+numbered TooManyPairs = omega arith
+numbered BadListLength = omega arith
+numbered (TooManySpans n) = omega arith
+numbered (SpanOffMap i) = omega arith
+numbered (SpanEndsCoincide i) = omega arith
+numbered WorkTooShort = omega arith
+numbered (AnswerTooShort n) = omega arith
+numbered MarksTooShort = omega arith
+numbered (SliceTooShort n) = omega arith
+numbered BadThresholds = omega arith
+
+-- a refusal that `?` passes on
+pub passed_on : {A : Type 0} (r : Result A Refused) (e : Refused) → IsErrAnd r (λ x. x ≡ e) → meaning r ≡ some (refusal_of e)
+passed_on (Ok x) e h = absurd h
+passed_on (Err x) e h = ap (λ (e : Refused). some (refusal_of e)) h
+
+pub counted_on : (r : Result ℕ Refused) (e : Refused) → IsErrAnd r (λ x. x ≡ e) → counted r ≡ (refusal_of e).detail
+counted_on (Ok x) e h = absurd h
+counted_on (Err x) e h = ap (λ (e : Refused). (refusal_of e).detail) h
 
 -- the cells of a job past 1 to 10
 module _ (s : List ℕ) {h : Header} (e : first_refusal (job_checks s) ≡ none) (k : h ≡ header_at s) where

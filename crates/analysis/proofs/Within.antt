@@ -5,11 +5,18 @@ use mathlib.Core.List.{List}
 use Prim.Native.Nat.{ℕ, ◌≤◌, ◌<◌}
 use native.Mathlib.Decide.{dec_lt}
 use native.Mathlib.Omega.{arith}
-use lib.ListN.{length}
+use lib.ListN.{length, replicate, length-replicate}
 use Rattle.areas.specs.Words.{labelled}
+use Rattle.areas_assessments.specs.Recording.{Arrays}
+use Rattle.areas_assessments.proofs.Recording.{zero-arrays}
 use Rattle.graph.specs.Records.{Record}
 use Rattle.analysis.specs.Bridging.{PartedWithin}
 use Rattle.analysis.proofs.Bridging.{labelled-again}
+
+-- arrays of zeros, with as much room as their length tells
+pub zero-room : (most : ℕ) → most ≤ 4096
+    → Arrays (length (replicate {A = ℕ} most 0)) (replicate 256 0) (replicate 256 0) (replicate most 0) (replicate most 0) (replicate most 0)
+zero-room most h = rw (length-replicate {A = ℕ} most 0) (zero-arrays most h)
 
 module _ {most : ℕ} {ls : List ℕ} {rs : List Record} {Told : Type 0} {before work : List ℕ} {pairs : ℕ}
     (y : PartedWithin most ls rs Told before work pairs) where

@@ -12,8 +12,7 @@ ghost use Rattle.serial_links.specs.HeldLimits.{limits_of};
 ghost use Rattle.serial_candidates.specs.Owners.{Stored};
 ghost use Rattle.checks.specs.Checks.{first_refusal};
 ghost use Rattle.checks_calls.specs.Refusals.{reduce_checks, by_list_checks};
-ghost use Rattle.results.specs.Results.{work_size, own_ends};
-ghost use Rattle.analysis.specs.Bridging.{few_pairs};
+ghost use Rattle.results.specs.Results.{work_size, max_pairs, own_ends};
 ghost use Rattle.analysis.specs.Plans.{RankTables, plan_of, Leads, RankedBy, Headed, OwnEnds, RankedJob, Plannable, EndsBy, SomeEnds, PartitionTables};
 ghost use Rattle.analysis.specs.Plans.{SomeTold, TabledWithin, DrawnWithin, Drawn};
 
@@ -24,7 +23,6 @@ use places::ranks::sort_ranks;
 use serial_links::limits::Limits;
 use serial_plan::planning::plan_merges;
 use serial_ranks::{fill_identity, fill_keys, fill_ramps, fill_spans, fill_widths};
-use wire::size;
 
 // The places of a job's boundaries by rank.
 pub fn order_boundaries(job: &[u8], h: Header, order: &mut [u32; 256])
@@ -33,8 +31,8 @@ pub fn order_boundaries(job: &[u8], h: Header, order: &mut [u32; 256])
 {
     let c = h.counts;
     let o = h.offsets;
-    let n = size(c.boundaries);
-    let at = size(o.boundaries);
+    let n = c.boundaries as usize;
+    let at = o.boundaries as usize;
     let mut first = [0u64; 256];
     let mut second = [0u64; 256];
     fill_keys(job, at, n, &mut first, &mut second);
@@ -48,8 +46,8 @@ pub fn own_ends(job: &[u8], h: Header, ends: &mut [u32; 1024])
 {
     let c = h.counts;
     let o = h.offsets;
-    let n = size(c.boundaries);
-    let at = size(o.boundaries);
+    let n = c.boundaries as usize;
+    let at = o.boundaries as usize;
     let mut order = [0u32; 256];
     fill_identity(&mut order);
     fill_spans(job, at, BOUNDARY_SIZE, &order, n, ends);
@@ -69,8 +67,8 @@ fn fill_tables(
 {
     let c = h.counts;
     let o = h.offsets;
-    let count = size(c.boundaries);
-    let at = size(o.boundaries);
+    let count = c.boundaries as usize;
+    let at = o.boundaries as usize;
     fill_spans(job, at, BOUNDARY_SIZE, order, count, own);
     fill_widths(job, at, order, count, bits);
     fill_ramps(job, at, order, count, ramps);
@@ -104,8 +102,8 @@ fn plan_listing(
 {
     let c = h.counts;
     let o = h.offsets;
-    let n = size(c.width * c.height);
-    let count = size(c.boundaries);
+    let n = (c.width * c.height) as usize;
+    let count = c.boundaries as usize;
     let mut own = [0u32; 1024];
     let mut bits = [0u64; 256];
     let mut ramps = [0u8; 256];
@@ -113,8 +111,8 @@ fn plan_listing(
     plan_merges(
         limits,
         job,
-        size(o.bases),
-        size(c.bases),
+        o.bases as usize,
+        c.bases as usize,
         &job[HEADER_SIZE..HEADER_SIZE + n],
         c.width,
         c.height,
@@ -157,8 +155,8 @@ fn part_by_rank(
         removed.new separated.new owners.new lefts.new rights.new marks.new result }
 {
     let c = h.counts;
-    let n = size(c.width * c.height);
-    let count = size(c.boundaries);
+    let n = (c.width * c.height) as usize;
+    let count = c.boundaries as usize;
     let p = analyse(
         &job[HEADER_SIZE..HEADER_SIZE + n],
         c.width,
@@ -177,8 +175,8 @@ fn part_by_rank(
     p.pairs
 }
 
-// Partitions a job with room for few region pairs, and plans its merges where they are no more; gives their number.
-fn plan_few(
+// Partitions a job with room for PAIRS region pairs, and plans its merges where they are no more; gives their number.
+fn plan_within<const PAIRS: usize>(
     limits: Limits,
     directions: u32,
     job: &[u8],
@@ -188,18 +186,19 @@ fn plan_few(
     work: &mut [u8],
     plan: &mut [u32; 256],
 ) -> usize
-    requires { Plannable job.now h order.now work.old × SpansFit h.counts.width h.counts.height ends.now h.counts.boundaries
+    requires few { PAIRS ≤ max_pairs }
+    requires given { Plannable job.now h order.now work.old × SpansFit h.counts.width h.counts.height ends.now h.counts.boundaries
         × SomeEnds job.now order.now ends.now × (length plan.old ≡ 256) × (limits.most_spans ≤ 16) × Leads directions }
     ensures drawn_within { (ss : List Span) → EndsBy job.now order.now ends.now ss
-        → DrawnWithin (limits_of limits) (directions_of directions) few_pairs (decode job.now) ss work.old work.new
+        → DrawnWithin (limits_of limits) (directions_of directions) PAIRS (decode job.now) ss work.old work.new
         plan.new result }
     ensures whole { length plan.new ≡ 256 }
 {
     let mut removed = [0u32; 256];
     let mut separated = [0u32; 256];
-    let mut owners = [0u32; FEW_PAIRS];
-    let mut lefts = [0u32; FEW_PAIRS];
-    let mut rights = [0u32; FEW_PAIRS];
+    let mut owners = [0u32; PAIRS];
+    let mut lefts = [0u32; PAIRS];
+    let mut rights = [0u32; PAIRS];
     let mut marks = [0u8; 256];
     let pairs = part_by_rank(
         directions,
@@ -214,53 +213,7 @@ fn plan_few(
         &mut rights,
         &mut marks,
     );
-    if FEW_PAIRS < pairs {
-        return pairs;
-    }
-    plan_listing(
-        limits, job, h, order, work, &removed, &separated, &owners, &lefts, &rights, pairs, &marks,
-        plan,
-    );
-    pairs
-}
-
-// The same, with room for as many as a call takes.
-fn plan_many(
-    limits: Limits,
-    directions: u32,
-    job: &[u8],
-    h: Header,
-    ends: &[u32; 1024],
-    order: &[u32; 256],
-    work: &mut [u8],
-    plan: &mut [u32; 256],
-) -> usize
-    requires { Plannable job.now h order.now work.old × SpansFit h.counts.width h.counts.height ends.now h.counts.boundaries
-        × SomeEnds job.now order.now ends.now × (length plan.old ≡ 256) × (limits.most_spans ≤ 16) × Leads directions }
-    ensures { (ss : List Span) → EndsBy job.now order.now ends.now ss
-        → Drawn (limits_of limits) (directions_of directions) (decode job.now) ss work.old work.new plan.new
-        result }
-{
-    let mut removed = [0u32; 256];
-    let mut separated = [0u32; 256];
-    let mut owners = [0u32; MAX_PAIRS];
-    let mut lefts = [0u32; MAX_PAIRS];
-    let mut rights = [0u32; MAX_PAIRS];
-    let mut marks = [0u8; 256];
-    let pairs = part_by_rank(
-        directions,
-        job,
-        h,
-        ends,
-        work,
-        &mut removed,
-        &mut separated,
-        &mut owners,
-        &mut lefts,
-        &mut rights,
-        &mut marks,
-    );
-    if MAX_PAIRS < pairs {
+    if PAIRS < pairs {
         return pairs;
     }
     plan_listing(
@@ -288,14 +241,14 @@ fn plan_matched(
         result }
 {
     let c = h.counts;
-    if !is_small(size(c.width * c.height), size(c.boundaries)) {
-        return plan_many(limits, directions, job, h, ends, order, work, plan);
+    if !is_small((c.width * c.height) as usize, c.boundaries as usize) {
+        return plan_within::<MAX_PAIRS>(limits, directions, job, h, ends, order, work, plan);
     }
-    let pairs = plan_few(limits, directions, job, h, ends, order, work, plan);
+    let pairs = plan_within::<FEW_PAIRS>(limits, directions, job, h, ends, order, work, plan);
     if pairs <= FEW_PAIRS {
         return pairs;
     }
-    plan_many(limits, directions, job, h, ends, order, work, plan)
+    plan_within::<MAX_PAIRS>(limits, directions, job, h, ends, order, work, plan)
 }
 
 // By the boundaries' own ends.
@@ -315,8 +268,8 @@ pub fn plan_own(
 {
     let c = h.counts;
     let o = h.offsets;
-    let count = size(c.boundaries);
-    let at = size(o.boundaries);
+    let count = c.boundaries as usize;
+    let at = o.boundaries as usize;
     let mut ends = [0u32; 1024];
     fill_spans(job, at, BOUNDARY_SIZE, order, count, &mut ends);
     plan_matched(limits, directions, job, h, &ends, order, work, plan)
@@ -339,7 +292,7 @@ fn plan_listed(
         work.new plan.new result }
 {
     let c = h.counts;
-    let count = size(c.boundaries);
+    let count = c.boundaries as usize;
     let mut ends = [0u32; 1024];
     fill_spans(list, 0, SPAN_SIZE, order, count, &mut ends);
     plan_matched(limits, directions, job, h, &ends, order, work, plan)
@@ -362,7 +315,7 @@ fn plan_unmatched(
         plan.new result }
 {
     let c = h.counts;
-    let cells = size(c.width * c.height);
+    let cells = (c.width * c.height) as usize;
     fill_identity(plan);
     let mut ends = [0u32; 1024];
     fill_spans(list, 0, SPAN_SIZE, plan, n, &mut ends);
@@ -396,7 +349,7 @@ pub fn plan_by_list(
 {
     let c = h.counts;
     let n = list.len() / SPAN_SIZE;
-    if n == size(c.boundaries) {
+    if n == c.boundaries as usize {
         return plan_listed(limits, directions, job, h, list, order, work, plan);
     }
     plan_unmatched(directions, job, h, list, n, work, plan)

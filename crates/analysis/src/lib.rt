@@ -11,5 +11,5 @@ mod result; // what a call gives back
 pub use drawing::own_ends;
 pub use marked::find_marks;
 pub use parting::find_areas;
-pub use plans::{plan_reduce, plan_reduce_by_list};
-pub use result::{ChokesResult, WORK_PER_CELL, first_answer};
+pub use plans::{merges_by_list, merges_by_own_ends, plan_reduce, plan_reduce_by_list};
+pub use result::{ChokesResult, WORK_PER_CELL, check_pairs, check_room, first_answer};

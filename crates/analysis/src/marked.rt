@@ -1,12 +1,12 @@
 // Partition, records and marks: the core of Mark.
-ghost use Rattle.std.specs.Prelude.{length};
+ghost use Rattle.std.specs.Prelude.{◌≤◌, length};
 ghost use Rattle.grid.specs.Cells.{map_of};
 ghost use Rattle.grid.specs.Directions.{directions_of};
 ghost use Rattle.areas.specs.Spans.{spans_in};
 ghost use Rattle.areas_assessments.specs.Recording.{Arrays};
 ghost use Rattle.areas_partition.specs.Partitioned.{Partitionable};
 ghost use Rattle.results.specs.Results.{max_pairs};
-ghost use Rattle.analysis.specs.Bridging.{few_pairs, MarkedWithin};
+ghost use Rattle.analysis.specs.Bridging.{MarkedWithin};
 
 use crate::bridged::{FEW_PAIRS, MAX_PAIRS, is_small};
 use areas_partition::partition_by_spans;
@@ -47,8 +47,8 @@ fn mark_spans(
     pairs
 }
 
-// The same with room for few region pairs.
-fn marks_few(
+// The same with room for PAIRS region pairs.
+fn marks_within<const PAIRS: usize>(
     cells: &[u8],
     width: u32,
     height: u32,
@@ -58,52 +58,16 @@ fn marks_few(
     work: &mut [u8],
     marks: &mut [u8; 256],
 ) -> usize
-    requires { Partitionable width height cells.now directions ends.now count work.old }
-    ensures { MarkedWithin few_pairs (directions_of directions) (map_of width height cells.now) (spans_in ends.now count)
+    requires few { PAIRS ≤ max_pairs }
+    requires parted { Partitionable width height cells.now directions ends.now count work.old }
+    ensures { MarkedWithin PAIRS (directions_of directions) (map_of width height cells.now) (spans_in ends.now count)
         marks.new work.old work.new result }
 {
     let mut removed = [0u32; 256];
     let mut separated = [0u32; 256];
-    let mut owners = [0u32; FEW_PAIRS];
-    let mut lefts = [0u32; FEW_PAIRS];
-    let mut rights = [0u32; FEW_PAIRS];
-    mark_spans(
-        cells,
-        width,
-        height,
-        directions,
-        ends,
-        count,
-        work,
-        &mut removed,
-        &mut separated,
-        &mut owners,
-        &mut lefts,
-        &mut rights,
-        marks,
-    )
-}
-
-// And with room for as many as a call takes.
-fn marks_many(
-    cells: &[u8],
-    width: u32,
-    height: u32,
-    directions: u32,
-    ends: &[u32; 1024],
-    count: usize,
-    work: &mut [u8],
-    marks: &mut [u8; 256],
-) -> usize
-    requires { Partitionable width height cells.now directions ends.now count work.old }
-    ensures { MarkedWithin max_pairs (directions_of directions) (map_of width height cells.now) (spans_in ends.now count)
-        marks.new work.old work.new result }
-{
-    let mut removed = [0u32; 256];
-    let mut separated = [0u32; 256];
-    let mut owners = [0u32; MAX_PAIRS];
-    let mut lefts = [0u32; MAX_PAIRS];
-    let mut rights = [0u32; MAX_PAIRS];
+    let mut owners = [0u32; PAIRS];
+    let mut lefts = [0u32; PAIRS];
+    let mut rights = [0u32; PAIRS];
     mark_spans(
         cells,
         width,
@@ -137,11 +101,15 @@ pub fn find_marks(
         marks.new work.old work.new result }
 {
     if !is_small(cells.len(), count) {
-        return marks_many(cells, width, height, directions, ends, count, work, marks);
+        return marks_within::<MAX_PAIRS>(
+            cells, width, height, directions, ends, count, work, marks,
+        );
     }
-    let pairs = marks_few(cells, width, height, directions, ends, count, work, marks);
+    let pairs = marks_within::<FEW_PAIRS>(
+        cells, width, height, directions, ends, count, work, marks,
+    );
     if pairs <= FEW_PAIRS {
         return pairs;
     }
-    marks_many(cells, width, height, directions, ends, count, work, marks)
+    marks_within::<MAX_PAIRS>(cells, width, height, directions, ends, count, work, marks)
 }

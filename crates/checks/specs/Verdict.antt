@@ -1,36 +1,48 @@
--- What each answer of the code stands for: none, or document 01's number with its detail.
-use Rattle.std.specs.Prelude.{ℕ, Bool, true, false}
+-- What the answers of the code stand for: document 01's number with its detail, or none.
+use Rattle.std.specs.Prelude.{ℕ, Bool, true, false, Result, Ok, Err}
 use Rattle.std.proofs.Math.Option.{Option, none, some}
 use Rattle.checks.specs.Checks.{Refusal}
 use Rattle.checks.specs.Numbers.{job_too_short, bad_sides, too_many_records, too_many_boundaries, bad_layout, bad_cell, anchor_off_map, bad_sums, bad_ramp}
-use Rattle.checks.specs.Numbers.{bad_width, end_off_map, ends_coincide, bad_list_length, too_many_spans, span_off_map, span_ends_coincide, bad_thresholds}
-use Rattle.checks.specs.declared.verdict.Verdict.{Verdict}
-use Rattle.checks.specs.declared.verdict.Verdict.TheVariants.{Passed, JobTooShort, BadSides, TooManyRecords, TooManyBoundaries, BadLayout, BadCell}
-use Rattle.checks.specs.declared.verdict.Verdict.TheVariants.{AnchorOffMap, BadSums, BadRamp, BadWidth, EndOffMap, EndsCoincide, BadListLength}
-use Rattle.checks.specs.declared.verdict.Verdict.TheVariants.{TooManySpans, SpanOffMap, SpanEndsCoincide, BadThresholds}
+use Rattle.checks.specs.Numbers.{bad_width, end_off_map, ends_coincide, too_many_pairs, bad_list_length, too_many_spans, span_off_map, span_ends_coincide}
+use Rattle.checks.specs.Numbers.{work_too_short, answer_too_short, marks_too_short, slice_too_short, bad_thresholds}
+use Rattle.checks.specs.declared.refused.Refused.{Refused}
+use Rattle.checks.specs.declared.refused.Refused.TheVariants.{JobTooShort, BadSides, TooManyRecords, TooManyBoundaries, BadLayout, BadCell, AnchorOffMap}
+use Rattle.checks.specs.declared.refused.Refused.TheVariants.{BadSums, BadRamp, BadWidth, EndOffMap, EndsCoincide, TooManyPairs, BadListLength, TooManySpans}
+use Rattle.checks.specs.declared.refused.Refused.TheVariants.{SpanOffMap, SpanEndsCoincide, WorkTooShort, AnswerTooShort, MarksTooShort, SliceTooShort}
+use Rattle.checks.specs.declared.refused.Refused.TheVariants.{BadThresholds}
 
-abbrev refused : ℕ → ℕ → Option Refusal
-refused n d = some (record { number = n; detail = d })
+abbrev refused : ℕ → ℕ → Refusal
+refused n d = record { number = n; detail = d }
 
-abbrev pub meaning : Verdict → Option Refusal
-meaning Passed = none
-meaning JobTooShort = refused job_too_short 0
-meaning BadSides = refused bad_sides 0
-meaning TooManyRecords = refused too_many_records 0
-meaning (TooManyBoundaries n) = refused too_many_boundaries n
-meaning BadLayout = refused bad_layout 0
-meaning (BadCell i) = refused bad_cell i
-meaning (AnchorOffMap i) = refused anchor_off_map i
-meaning BadSums = refused bad_sums 0
-meaning (BadRamp i) = refused bad_ramp i
-meaning (BadWidth i) = refused bad_width i
-meaning (EndOffMap i) = refused end_off_map i
-meaning (EndsCoincide i) = refused ends_coincide i
-meaning BadListLength = refused bad_list_length 0
-meaning (TooManySpans n) = refused too_many_spans n
-meaning (SpanOffMap i) = refused span_off_map i
-meaning (SpanEndsCoincide i) = refused span_ends_coincide i
-meaning BadThresholds = refused bad_thresholds 0
+-- Document 01's number with its detail.
+abbrev pub refusal_of : Refused → Refusal
+refusal_of JobTooShort = refused job_too_short 0
+refusal_of BadSides = refused bad_sides 0
+refusal_of TooManyRecords = refused too_many_records 0
+refusal_of (TooManyBoundaries n) = refused too_many_boundaries n
+refusal_of BadLayout = refused bad_layout 0
+refusal_of (BadCell i) = refused bad_cell i
+refusal_of (AnchorOffMap i) = refused anchor_off_map i
+refusal_of BadSums = refused bad_sums 0
+refusal_of (BadRamp i) = refused bad_ramp i
+refusal_of (BadWidth i) = refused bad_width i
+refusal_of (EndOffMap i) = refused end_off_map i
+refusal_of (EndsCoincide i) = refused ends_coincide i
+refusal_of TooManyPairs = refused too_many_pairs 0
+refusal_of BadListLength = refused bad_list_length 0
+refusal_of (TooManySpans n) = refused too_many_spans n
+refusal_of (SpanOffMap i) = refused span_off_map i
+refusal_of (SpanEndsCoincide i) = refused span_ends_coincide i
+refusal_of WorkTooShort = refused work_too_short 0
+refusal_of (AnswerTooShort n) = refused answer_too_short n
+refusal_of MarksTooShort = refused marks_too_short 0
+refusal_of (SliceTooShort n) = refused slice_too_short n
+refusal_of BadThresholds = refused bad_thresholds 0
+
+-- What an answer refuses, or none.
+abbrev pub meaning : {A : Type 0} → Result A Refused → Option Refusal
+meaning (Ok _) = none
+meaning (Err e) = some (refusal_of e)
 
 abbrev pub passes : Option Refusal → Bool
 passes none = true
@@ -44,3 +56,8 @@ number_of (some r) = r.number
 abbrev pub detail_of : Option Refusal → ℕ
 detail_of none = 0
 detail_of (some r) = r.detail
+
+-- The detail of an answer that counts: its count, or that of its refusal.
+abbrev pub counted : Result ℕ Refused → ℕ
+counted (Ok n) = n
+counted (Err e) = (refusal_of e).detail

@@ -6,7 +6,7 @@ ghost use Rattle.checks.specs.Faults.{anchor_fault};
 ghost use Rattle.checks.specs.Single.{base_check};
 ghost use Rattle.checks.specs.Verdict.{meaning};
 
-use crate::verdict::Verdict;
+use crate::refused::Refused;
 use format::{BASE_SIZE, NO_ANCHOR, read_base};
 use position::WalkPosition;
 
@@ -16,17 +16,15 @@ fn anchor_fault(width: u32, height: u32, p: WalkPosition) -> bool
     !((p.x == NO_ANCHOR) & (p.y == NO_ANCHOR)) & ((width <= p.x) | (height <= p.y))
 }
 
-pub fn check_bases(job: &[u8], at: usize, n: usize, width: u32, height: u32) -> Verdict
+pub fn check_bases(job: &[u8], at: usize, n: usize, width: u32, height: u32) -> Result<(), Refused>
     requires { at + n * base_size ≤ length job.now }
     ensures { meaning result ≡ first_refusal (each n (base_check job.now width height at)) }
 {
-    let mut i: usize = 0;
-    while i < n {
+    for i in 0..n {
         let b = read_base(job, at + i * BASE_SIZE);
         if anchor_fault(width, height, b.anchor) {
-            return Verdict::AnchorOffMap(i);
+            return Err(Refused::AnchorOffMap(i));
         }
-        i += 1;
     }
-    Verdict::Passed
+    Ok(())
 }

@@ -7,8 +7,8 @@ ghost use Rattle.format.specs.Bounds.{max_side};
 ghost use Rattle.checks.specs.Single.{ramp_check, width_check, ends_check};
 ghost use Rattle.checks.specs.Verdict.{meaning};
 
+use crate::refused::Refused;
 use crate::spans::ends_fault;
-use crate::verdict::Verdict;
 use format::{BOUNDARY_SIZE, MAX_WIDTH_BITS, RampRecord, read_boundary};
 
 pub fn ramp_fault(r: RampRecord) -> bool
@@ -24,34 +24,30 @@ pub fn width_fault(bits: u64) -> bool
     MAX_WIDTH_BITS < bits
 }
 
-pub fn check_ramps(job: &[u8], at: usize, n: usize) -> Verdict
+pub fn check_ramps(job: &[u8], at: usize, n: usize) -> Result<(), Refused>
     requires { at + n * boundary_size ≤ length job.now }
     ensures { meaning result ≡ first_refusal (each n (ramp_check job.now at)) }
 {
-    let mut i: usize = 0;
-    while i < n {
+    for i in 0..n {
         let b = read_boundary(job, at + i * BOUNDARY_SIZE);
         if ramp_fault(b.ramp) {
-            return Verdict::BadRamp(i);
+            return Err(Refused::BadRamp(i));
         }
-        i += 1;
     }
-    Verdict::Passed
+    Ok(())
 }
 
-pub fn check_widths(job: &[u8], at: usize, n: usize) -> Verdict
+pub fn check_widths(job: &[u8], at: usize, n: usize) -> Result<(), Refused>
     requires { at + n * boundary_size ≤ length job.now }
     ensures { meaning result ≡ first_refusal (each n (width_check job.now at)) }
 {
-    let mut i: usize = 0;
-    while i < n {
+    for i in 0..n {
         let b = read_boundary(job, at + i * BOUNDARY_SIZE);
         if width_fault(b.bits) {
-            return Verdict::BadWidth(i);
+            return Err(Refused::BadWidth(i));
         }
-        i += 1;
     }
-    Verdict::Passed
+    Ok(())
 }
 
 // 11 and 12 boundary by boundary; 12 only where the ends have to be distinct.
@@ -62,21 +58,19 @@ pub fn check_ends(
     width: u32,
     height: u32,
     distinct: bool,
-) -> Verdict
+) -> Result<(), Refused>
     requires { (at + n * boundary_size ≤ length job.now) × (width ≤ max_side) × (height ≤ max_side) }
     ensures { meaning result ≡ first_refusal (each n (ends_check distinct job.now width height at)) }
 {
-    let mut i: usize = 0;
-    while i < n {
+    for i in 0..n {
         let b = read_boundary(job, at + i * BOUNDARY_SIZE);
         let e = b.ends;
         if ends_fault(width, height, e) {
-            return Verdict::EndOffMap(i);
+            return Err(Refused::EndOffMap(i));
         }
         if distinct & e.coincides() {
-            return Verdict::EndsCoincide(i);
+            return Err(Refused::EndsCoincide(i));
         }
-        i += 1;
     }
-    Verdict::Passed
+    Ok(())
 }

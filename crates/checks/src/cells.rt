@@ -5,19 +5,17 @@ ghost use Rattle.checks.specs.Checks.{first_refusal, each};
 ghost use Rattle.checks.specs.Single.{cell_check};
 ghost use Rattle.checks.specs.Verdict.{meaning};
 
-use crate::verdict::Verdict;
+use crate::refused::Refused;
 use format::{CELL_LIMIT, HEADER_SIZE};
 
-pub fn check_cells(job: &[u8], n: usize) -> Verdict
+pub fn check_cells(job: &[u8], n: usize) -> Result<(), Refused>
     requires { header_size + n ≤ length job.now }
     ensures { meaning result ≡ first_refusal (each n (cell_check job.now)) }
 {
-    let mut i: usize = 0;
-    while i < n {
+    for i in 0..n {
         if CELL_LIMIT <= job[HEADER_SIZE + i] {
-            return Verdict::BadCell(i);
+            return Err(Refused::BadCell(i));
         }
-        i += 1;
     }
-    Verdict::Passed
+    Ok(())
 }

@@ -2,12 +2,12 @@
 ghost use Rattle.std.specs.Prelude.{◌≡◌};
 ghost use Rattle.format.specs.Header.{offsets_of};
 ghost use Rattle.checks.specs.Checks.{first_refusal};
-ghost use Rattle.checks.specs.Faults.{side_fault, size_fault, count_fault, boundary_count_fault, same_offsets};
+ghost use Rattle.checks.specs.Faults.{side_fault, size_fault, count_fault, boundary_count_fault};
 ghost use Rattle.format.specs.Fits.{CountsAllowed};
 ghost use Rattle.checks.specs.Single.{header_checks};
 ghost use Rattle.checks.specs.Verdict.{meaning};
 
-use crate::verdict::Verdict;
+use crate::refused::Refused;
 use format::{
     BASE_SIZE, BOUNDARY_SIZE, Counts, HEADER_SIZE, Header, MAX_BASES, MAX_BOUNDARIES,
     MAX_OBSERVATIONS, MAX_SIDE, MAX_SOURCES, OBSERVATION_SIZE, Offsets, SOURCE_SIZE,
@@ -35,16 +35,6 @@ fn boundary_count_fault(c: Counts) -> bool
     ensures { result ≡ boundary_count_fault c }
 {
     MAX_BOUNDARIES < c.boundaries
-}
-
-fn same_offsets(o: Offsets, p: Offsets) -> bool
-    ensures { result ≡ same_offsets o p }
-{
-    (o.cells == p.cells)
-        & ((o.bases == p.bases)
-            & ((o.boundaries == p.boundaries)
-                & ((o.observations == p.observations)
-                    & ((o.sources == p.sources) & (o.total == p.total)))))
 }
 
 // Sizes of the records in u32, as offsets are counted.
@@ -78,22 +68,22 @@ pub fn offsets_of(c: Counts) -> Offsets
     }
 }
 
-pub fn check_header(h: Header) -> Verdict
+pub fn check_header(h: Header) -> Result<(), Refused>
     ensures { meaning result ≡ first_refusal (header_checks h) }
 {
     let c = h.counts;
     let o = h.offsets;
     if size_fault(c) {
-        return Verdict::BadSides;
+        return Err(Refused::BadSides);
     }
     if count_fault(c) {
-        return Verdict::TooManyRecords;
+        return Err(Refused::TooManyRecords);
     }
     if boundary_count_fault(c) {
-        return Verdict::TooManyBoundaries(c.boundaries as usize);
+        return Err(Refused::TooManyBoundaries(c.boundaries as usize));
     }
-    if !same_offsets(o, offsets_of(c)) {
-        return Verdict::BadLayout;
+    if o != offsets_of(c) {
+        return Err(Refused::BadLayout);
     }
-    Verdict::Passed
+    Ok(())
 }

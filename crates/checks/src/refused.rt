@@ -1,16 +1,16 @@
-// What the checks answer.
+// What a call refuses.
 ghost use Rattle.std.specs.Prelude.{◌≡◌};
-ghost use Rattle.checks.specs.Verdict.{meaning, passes, number_of, detail_of};
+ghost use Rattle.checks.specs.Verdict.{refusal_of};
 
 use crate::refusals::{
-    ANCHOR_OFF_MAP, BAD_CELL, BAD_LAYOUT, BAD_LIST_LENGTH, BAD_RAMP, BAD_SIDES, BAD_SUMS,
-    BAD_THRESHOLDS, BAD_WIDTH, END_OFF_MAP, ENDS_COINCIDE, JOB_TOO_SHORT, SPAN_ENDS_COINCIDE,
-    SPAN_OFF_MAP, TOO_MANY_BOUNDARIES, TOO_MANY_RECORDS, TOO_MANY_SPANS,
+    ANCHOR_OFF_MAP, ANSWER_TOO_SHORT, BAD_CELL, BAD_LAYOUT, BAD_LIST_LENGTH, BAD_RAMP, BAD_SIDES,
+    BAD_SUMS, BAD_THRESHOLDS, BAD_WIDTH, END_OFF_MAP, ENDS_COINCIDE, JOB_TOO_SHORT,
+    MARKS_TOO_SHORT, SLICE_TOO_SHORT, SPAN_ENDS_COINCIDE, SPAN_OFF_MAP, TOO_MANY_BOUNDARIES,
+    TOO_MANY_PAIRS, TOO_MANY_RECORDS, TOO_MANY_SPANS, WORK_TOO_SHORT,
 };
 
-#[derive(Clone, Copy)]
-pub enum Verdict {
-    Passed,
+#[derive(Clone, Copy, Debug, PartialEq, Eq)]
+pub enum Refused {
     JobTooShort,
     BadSides,
     TooManyRecords,
@@ -23,68 +23,67 @@ pub enum Verdict {
     BadWidth(usize),
     EndOffMap(usize),
     EndsCoincide(usize),
+    TooManyPairs,
     BadListLength,
     TooManySpans(usize),
     SpanOffMap(usize),
     SpanEndsCoincide(usize),
+    WorkTooShort,
+    AnswerTooShort(usize),
+    MarksTooShort,
+    SliceTooShort(usize),
     BadThresholds,
 }
 
-impl Verdict {
-    pub fn passed(self) -> bool
-        ensures { result ≡ passes (meaning self) }
-    {
-        self.number() == 0
-    }
-
-    // Document 01's number, 0 where nothing is refused.
+impl Refused {
+    // Document 01's number.
     pub fn number(self) -> u32
-        ensures { result ≡ number_of (meaning self) }
+        ensures { result ≡ (refusal_of self).number }
     {
         match self {
-            Verdict::Passed => 0,
-            Verdict::JobTooShort => JOB_TOO_SHORT,
-            Verdict::BadSides => BAD_SIDES,
-            Verdict::TooManyRecords => TOO_MANY_RECORDS,
-            Verdict::TooManyBoundaries(_) => TOO_MANY_BOUNDARIES,
-            Verdict::BadLayout => BAD_LAYOUT,
-            Verdict::BadCell(_) => BAD_CELL,
-            Verdict::AnchorOffMap(_) => ANCHOR_OFF_MAP,
-            Verdict::BadSums => BAD_SUMS,
-            Verdict::BadRamp(_) => BAD_RAMP,
-            Verdict::BadWidth(_) => BAD_WIDTH,
-            Verdict::EndOffMap(_) => END_OFF_MAP,
-            Verdict::EndsCoincide(_) => ENDS_COINCIDE,
-            Verdict::BadListLength => BAD_LIST_LENGTH,
-            Verdict::TooManySpans(_) => TOO_MANY_SPANS,
-            Verdict::SpanOffMap(_) => SPAN_OFF_MAP,
-            Verdict::SpanEndsCoincide(_) => SPAN_ENDS_COINCIDE,
-            Verdict::BadThresholds => BAD_THRESHOLDS,
+            Refused::JobTooShort => JOB_TOO_SHORT,
+            Refused::BadSides => BAD_SIDES,
+            Refused::TooManyRecords => TOO_MANY_RECORDS,
+            Refused::TooManyBoundaries(_) => TOO_MANY_BOUNDARIES,
+            Refused::BadLayout => BAD_LAYOUT,
+            Refused::BadCell(_) => BAD_CELL,
+            Refused::AnchorOffMap(_) => ANCHOR_OFF_MAP,
+            Refused::BadSums => BAD_SUMS,
+            Refused::BadRamp(_) => BAD_RAMP,
+            Refused::BadWidth(_) => BAD_WIDTH,
+            Refused::EndOffMap(_) => END_OFF_MAP,
+            Refused::EndsCoincide(_) => ENDS_COINCIDE,
+            Refused::TooManyPairs => TOO_MANY_PAIRS,
+            Refused::BadListLength => BAD_LIST_LENGTH,
+            Refused::TooManySpans(_) => TOO_MANY_SPANS,
+            Refused::SpanOffMap(_) => SPAN_OFF_MAP,
+            Refused::SpanEndsCoincide(_) => SPAN_ENDS_COINCIDE,
+            Refused::WorkTooShort => WORK_TOO_SHORT,
+            Refused::AnswerTooShort(_) => ANSWER_TOO_SHORT,
+            Refused::MarksTooShort => MARKS_TOO_SHORT,
+            Refused::SliceTooShort(_) => SLICE_TOO_SHORT,
+            Refused::BadThresholds => BAD_THRESHOLDS,
         }
     }
 
+    // Its detail: an index, a count or a length, or 0.
     pub fn detail(self) -> u64
-        ensures { result ≡ detail_of (meaning self) }
+        ensures { result ≡ (refusal_of self).detail }
     {
         match self {
-            Verdict::Passed => 0,
-            Verdict::JobTooShort => 0,
-            Verdict::BadSides => 0,
-            Verdict::TooManyRecords => 0,
-            Verdict::TooManyBoundaries(n) => n as u64,
-            Verdict::BadLayout => 0,
-            Verdict::BadCell(i) => i as u64,
-            Verdict::AnchorOffMap(i) => i as u64,
-            Verdict::BadSums => 0,
-            Verdict::BadRamp(i) => i as u64,
-            Verdict::BadWidth(i) => i as u64,
-            Verdict::EndOffMap(i) => i as u64,
-            Verdict::EndsCoincide(i) => i as u64,
-            Verdict::BadListLength => 0,
-            Verdict::TooManySpans(n) => n as u64,
-            Verdict::SpanOffMap(i) => i as u64,
-            Verdict::SpanEndsCoincide(i) => i as u64,
-            Verdict::BadThresholds => 0,
+            Refused::TooManyBoundaries(n)
+            | Refused::TooManySpans(n)
+            | Refused::AnswerTooShort(n)
+            | Refused::SliceTooShort(n) => n as u64,
+            Refused::BadCell(i)
+            | Refused::AnchorOffMap(i)
+            | Refused::BadRamp(i)
+            | Refused::BadWidth(i)
+            | Refused::EndOffMap(i)
+            | Refused::EndsCoincide(i)
+            | Refused::SpanOffMap(i)
+            | Refused::SpanEndsCoincide(i) => i as u64,
+            _ => 0,
         }
     }
 }

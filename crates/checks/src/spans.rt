@@ -7,7 +7,7 @@ ghost use Rattle.format.specs.Bounds.{max_side};
 ghost use Rattle.checks.specs.Single.{span_check, list_checks};
 ghost use Rattle.checks.specs.Verdict.{meaning};
 
-use crate::verdict::Verdict;
+use crate::refused::Refused;
 use format::{CELL_PIXELS, MAX_SPANS, SPAN_SIZE, read_span};
 use position::{PixelPosition, Span};
 
@@ -25,34 +25,32 @@ pub fn ends_fault(width: u32, height: u32, e: Span) -> bool
     position_fault(width, height, e.a) | position_fault(width, height, e.b)
 }
 
-fn check_spans(list: &[u8], n: usize, width: u32, height: u32) -> Verdict
+fn check_spans(list: &[u8], n: usize, width: u32, height: u32) -> Result<(), Refused>
     requires { (n * span_size ≤ length list.now) × (width ≤ max_side) × (height ≤ max_side) }
     ensures { meaning result ≡ first_refusal (each n (span_check list.now width height)) }
 {
-    let mut i: usize = 0;
-    while i < n {
+    for i in 0..n {
         let e = read_span(list, i * SPAN_SIZE);
         if ends_fault(width, height, e) {
-            return Verdict::SpanOffMap(i);
+            return Err(Refused::SpanOffMap(i));
         }
         if e.coincides() {
-            return Verdict::SpanEndsCoincide(i);
+            return Err(Refused::SpanEndsCoincide(i));
         }
-        i += 1;
     }
-    Verdict::Passed
+    Ok(())
 }
 
-pub fn check_list(list: &[u8], width: u32, height: u32) -> Verdict
+pub fn check_list(list: &[u8], width: u32, height: u32) -> Result<(), Refused>
     requires { (width ≤ max_side) × (height ≤ max_side) }
     ensures { meaning result ≡ first_refusal (list_checks list.now width height) }
 {
     if !(list.len() % SPAN_SIZE == 0) {
-        return Verdict::BadListLength;
+        return Err(Refused::BadListLength);
     }
     let n = list.len() / SPAN_SIZE;
     if MAX_SPANS < n {
-        return Verdict::TooManySpans(n);
+        return Err(Refused::TooManySpans(n));
     }
     check_spans(list, n, width, height)
 }

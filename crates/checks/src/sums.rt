@@ -7,7 +7,6 @@ ghost use Rattle.checks.specs.Passed.{Laid};
 ghost use Rattle.checks.specs.Single.{sums_fault};
 
 use format::{BOUNDARY_SIZE, Header, OBSERVATION_SIZE, read_boundary, read_observation};
-use wire::{size, wide};
 
 // The observations that the boundaries name.
 pub fn observation_total(job: &[u8], at: usize, n: usize) -> u64
@@ -15,11 +14,9 @@ pub fn observation_total(job: &[u8], at: usize, n: usize) -> u64
     ensures { result ≡ observation_total (boundary_records job.now at n) }
 {
     let mut total: u64 = 0;
-    let mut i: usize = 0;
-    while i < n {
+    for i in 0..n {
         let b = read_boundary(job, at + i * BOUNDARY_SIZE);
-        total += wide(b.observations);
-        i += 1;
+        total += u64::from(b.observations);
     }
     total
 }
@@ -30,11 +27,9 @@ pub fn own_total(job: &[u8], at: usize, n: usize) -> u64
     ensures { (result ≡ own_total (boundary_records job.now at n)) × (result ≤ n * 0xFFFF_FFFF) }
 {
     let mut total: u64 = 0;
-    let mut i: usize = 0;
-    while i < n {
+    for i in 0..n {
         let b = read_boundary(job, at + i * BOUNDARY_SIZE);
-        total += wide(b.sources);
-        i += 1;
+        total += u64::from(b.sources);
     }
     total
 }
@@ -45,11 +40,9 @@ pub fn source_count(job: &[u8], at: usize, n: usize) -> u64
     ensures { (result ≡ source_count (observation_records job.now at n)) × (result ≤ n * 0xFFFF_FFFF) }
 {
     let mut total: u64 = 0;
-    let mut i: usize = 0;
-    while i < n {
+    for i in 0..n {
         let o = read_observation(job, at + i * OBSERVATION_SIZE);
-        total += wide(o.sources);
-        i += 1;
+        total += u64::from(o.sources);
     }
     total
 }
@@ -60,10 +53,10 @@ pub fn sums_fault(job: &[u8], h: Header) -> bool
 {
     let c = h.counts;
     let o = h.offsets;
-    let at = size(o.boundaries);
-    let n = size(c.boundaries);
+    let at = o.boundaries as usize;
+    let n = c.boundaries as usize;
     let observed = observation_total(job, at, n);
     let sources = own_total(job, at, n)
-        + source_count(job, size(o.observations), size(c.observations));
-    !((observed == wide(c.observations)) & (sources == wide(c.sources)))
+        + source_count(job, o.observations as usize, c.observations as usize);
+    !((observed == u64::from(c.observations)) & (sources == u64::from(c.sources)))
 }

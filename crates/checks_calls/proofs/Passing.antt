@@ -1,11 +1,13 @@
 -- One list of checks after another, as the code makes them; and what holds of a job that passes.
 use mathlib.Core.Path.{◌≡◌, refl, sym, ◌∙◌, ap}
-use mathlib.Core.Bool.{Bool, true, false, not}
+use mathlib.Core.Bool.{Bool, true}
+use Rattle.std.specs.Prelude.{Result, Ok, Err}
+use Rattle.std.specs.Result.{IsErrAnd, is_ok}
 use mathlib.Core.List.{List, ◌++◌}
 use mathlib.Core.Option.{Option, none, some}
 use Prim.Native.Nat.{ℕ, ◌≤◌}
 use native.Mathlib.Omega.{arith}
-use borrow.Author.Tests.{ltb-false, eqb-true, not-true, not-false}
+use borrow.Author.Tests.{ltb-false, eqb-true, not-false}
 use lib.ListN.{length}
 use Rattle.format.specs.Sizes.{header_size}
 use Rattle.format.specs.Header.{header_at, offsets_of}
@@ -15,24 +17,21 @@ use Rattle.checks.specs.Checks.{Refusal, Check, first_refusal, each}
 use Rattle.checks.specs.Passed.{Laid}
 use Rattle.checks.specs.Single.{header_checks}
 use Rattle.checks_calls.specs.Refusals.{layout_checks, job_checks, boundary_checks, reduce_checks}
-use Rattle.checks.specs.Verdict.{passes}
+use Rattle.checks.specs.Verdict.{meaning, passes, refusal_of}
+use Rattle.checks.specs.declared.refused.Refused.{Refused}
 use Rattle.checks.proofs.Firsts.{append-some, none_left, none_right, none-head}
 use Rattle.checks.proofs.Words.{header-passed}
 
--- The code's test whether to go on: an answer that is none.
-pub stopped : {o : Option Refusal} {t : Bool} (a b : List Check) → o ≡ first_refusal a → t ≡ passes o → not t ≡ true → o ≡ first_refusal (a ++ b)
-stopped {o} {t} a b e f g = go o e f
-  where
-    go : (o : Option Refusal) → o ≡ first_refusal a → t ≡ passes o → o ≡ first_refusal (a ++ b)
-    go none e f = let z : ◌≡◌ {A = Bool} true false = sym g ∙ ap not f in let n : ◌≡◌ {A = ℕ} 0 1 = cc in absurd (omega arith)
-    go (some r) e f = sym (append-some a b r (sym e))
+-- A refusal that `?` passes on is the first of all the checks.
+pub stopped : (r : Result Unit Refused) (e : Refused) (a b : List Check) → IsErrAnd r (λ x. x ≡ e) → some (refusal_of e) ≡ first_refusal a
+    → meaning r ≡ first_refusal (a ++ b)
+stopped (Ok x) e a b h f = absurd h
+stopped (Err x) e a b h f = ap (λ (e : Refused). some (refusal_of e)) h ∙ sym (append-some a b _ (sym f))
 
-pub went_on : {o : Option Refusal} {t : Bool} (a : List Check) → o ≡ first_refusal a → t ≡ passes o → not t ≡ false → first_refusal a ≡ none
-went_on {o} {t} a e f g = go o e f
-  where
-    go : (o : Option Refusal) → o ≡ first_refusal a → t ≡ passes o → first_refusal a ≡ none
-    go none e f = sym e
-    go (some r) e f = let z : ◌≡◌ {A = Bool} true false = sym (ap not f) ∙ g in let n : ◌≡◌ {A = ℕ} 0 1 = cc in absurd (omega arith)
+-- An answer without a refusal.
+pub ok-none : (r : Result Unit Refused) → is_ok r ≡ true → meaning r ≡ none
+ok-none (Ok x) e = refl
+ok-none (Err x) e = let n : ◌≡◌ {A = ℕ} 0 1 = cc in absurd (omega arith)
 
 -- A job that is past refusal 5.
 pub layout-passed : (s : List ℕ) → first_refusal (layout_checks s) ≡ none → (header_size ≤ length s) × Laid s (header_at s)
@@ -64,13 +63,6 @@ moved f {a} {b} {n} {m} e p q = e ∙ ap (λ (k : ℕ). first_refusal (each k (f
 -- A header that was read, in place of the bytes'.
 pub laid-read : (s : List ℕ) (h : Header) → h ≡ header_at s → Laid s (header_at s) → Laid s h
 laid-read s h e l = rw e l
-
--- The code's test as a Bool.
-pub declined : {o r : Option Refusal} {t : Bool} → o ≡ r → t ≡ passes o → not t ≡ true → passes r ≡ false
-declined {o} {r} {t} e f g = ap passes (sym e) ∙ sym f ∙ not-true t g
-
-pub accepted : {o r : Option Refusal} {t : Bool} → o ≡ r → t ≡ passes o → not t ≡ false → passes r ≡ true
-accepted {o} {r} {t} e f g = ap passes (sym e) ∙ sym f ∙ not-false t g
 
 pub passes_none : (o : Option Refusal) → passes o ≡ true → o ≡ none
 passes_none none e = refl

@@ -7,7 +7,7 @@ ghost use Rattle.checks_calls.specs.SpanEnds.{span_ends};
 ghost use Rattle.checks.specs.Verdict.{meaning, number_of, detail_of};
 
 use analysis::ChokesResult;
-use checks::Verdict;
+use checks::Refused;
 
 mod bare_records; // the bridges and the marks of bare lists of records
 mod own_partition; // the partition alone
@@ -25,7 +25,7 @@ pub use own_partition::probe_partition;
 pub use own_plan::probe_plan;
 pub use own_regions::probe_region;
 
-fn verdict(call: u32, job: &[u8], list: &[u8]) -> Verdict
+fn verdict(call: u32, job: &[u8], list: &[u8]) -> Result<(), Refused>
     ensures { meaning result ≡ checked call job.now list.now }
 {
     if call == 0 {
@@ -42,7 +42,7 @@ pub fn probe_check(call: u32, job: &[u8], list: &[u8]) -> ChokesResult
     ensures { (result.number ≡ number_of (checked call job.now list.now))
         × (result.detail ≡ detail_of (checked call job.now list.now)) }
 {
-    ChokesResult::of_verdict(verdict(call, job, list))
+    ChokesResult::from(verdict(call, job, list))
 }
 
 // part at the start of out where it fits; its number of bytes.
@@ -53,11 +53,7 @@ fn copy(out: &mut [u8], part: &[u8]) -> usize
     if out.len() < n {
         return n;
     }
-    let mut k: usize = 0;
-    while k < n {
-        out[k] = part[k];
-        k += 1;
-    }
+    out[..n].copy_from_slice(part);
     n
 }
 

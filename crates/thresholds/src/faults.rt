@@ -6,7 +6,7 @@ ghost use Rattle.thresholds.specs.Block.{head_fault, sizes_fault, ranges_fault, 
 
 use crate::block::{Block, read_block};
 use crate::{BLOCK_SIZE, LEAST_GROUP, MAX_COSINE_BITS, MOST_GROUP, NUMBER_COUNT, NUMBER_OFFSET};
-use checks::Verdict;
+use checks::Refused;
 use format::MAX_WIDTH_BITS;
 
 fn head_fault(b: Block) -> bool
@@ -60,21 +60,21 @@ fn ranges_fault(b: Block) -> bool
     false
 }
 
-pub fn check_thresholds(block: &[u8]) -> Verdict
+pub fn check_thresholds(block: &[u8]) -> Result<(), Refused>
     ensures { meaning result ≡ first_refusal (thresholds_check block.now ∷ []) }
 {
     if block.len() != BLOCK_SIZE {
-        return Verdict::BadThresholds;
+        return Err(Refused::BadThresholds);
     }
     let b = read_block(block);
     if head_fault(b) {
-        return Verdict::BadThresholds;
+        return Err(Refused::BadThresholds);
     }
     if sizes_fault(b) {
-        return Verdict::BadThresholds;
+        return Err(Refused::BadThresholds);
     }
     if ranges_fault(b) {
-        return Verdict::BadThresholds;
+        return Err(Refused::BadThresholds);
     }
-    Verdict::Passed
+    Ok(())
 }

@@ -1,0 +1,4 @@
+use Rattle.analysis.proofs.result.ChokesResult.of_pairs.Goals as goal
+
+pub returns : goal.returns
+returns c = rw (c.from.ensures.0, c.from.ensures.1) c.check_pairs.ensures
