@@ -112,19 +112,18 @@ module _ (s : List ℕ) (passed : first_refusal (job_checks s) ≡ none) where
     pub from_is : from ≡ sources_start counts
     pub count-is : count ≡ counts.sources
 
-  pub words-read : (h : Header) → h ≡ header_at s → {at n ats m from count : ℕ} → at ≡ h.offsets.boundaries → n ≡ h.counts.boundaries
-      → ats ≡ h.offsets.observations → m ≡ h.counts.observations
-      → from ≡ h.offsets.sources → count ≡ h.counts.sources → Words at n ats m from count
+  pub header-words : (h : Header) → h ≡ header_at s
+      → Words h.offsets.boundaries h.counts.boundaries h.offsets.observations h.counts.observations h.offsets.sources h.counts.sources
   unfolding header_at
-  words-read h e a b c d f g =
+  header-words h e =
       let q = sections s (header_at s) (job-passed s passed).1 in
       record {
-        at-is = a ∙ ap (λ (x : Header). x.offsets.boundaries) e ∙ q.boundaries-at;
-        n-is = b ∙ ap (λ (x : Header). x.counts.boundaries) e;
-        ats-is = c ∙ ap (λ (x : Header). x.offsets.observations) e ∙ q.observations-at;
-        m-is = d ∙ ap (λ (x : Header). x.counts.observations) e;
-        from_is = f ∙ ap (λ (x : Header). x.offsets.sources) e ∙ q.sources-at;
-        count-is = g ∙ ap (λ (x : Header). x.counts.sources) e;
+        at-is = ap (λ (x : Header). x.offsets.boundaries) e ∙ q.boundaries-at;
+        n-is = ap (λ (x : Header). x.counts.boundaries) e;
+        ats-is = ap (λ (x : Header). x.offsets.observations) e ∙ q.observations-at;
+        m-is = ap (λ (x : Header). x.counts.observations) e;
+        from_is = ap (λ (x : Header). x.offsets.sources) e ∙ q.sources-at;
+        count-is = ap (λ (x : Header). x.counts.sources) e;
       }
 
   module _ {at n ats m from count : ℕ} (w : Words at n ats m from count) where

@@ -1,21 +1,17 @@
 -- How many of the numbers of a part there are.
-use mathlib.Core.Path.{◌≡◌, sym, ◌∙◌, ap}
+use mathlib.Core.Path.{◌≡◌, ◌∙◌, ap}
 use mathlib.Core.List.{List}
-use Prim.Native.Nat.{ℕ, ◌+◌, ◌-◌, ◌≤◌}
+use Prim.Native.Nat.{ℕ, ◌-◌, ◌≤◌}
+use Rattle.std.specs.Prelude.{min}
 use native.Mathlib.Omega.{arith}
-use lib.ListN.{length, drop, length-take, length-drop}
-use lib.Seq.{take_all}
+use lib.ListN.{length, drop, length-drop}
+use Rattle.std.proofs.lemmas.List.{length-take}
 use Rattle.wire.specs.Bytes.{part}
-use Rattle.wire.proofs.Parts.{length_part}
 
 module _ (keys : List ℕ) (a c : ℕ) where
-  pub part-whole : a + c ≤ length keys → c ≡ length (part keys a c)
-  part-whole h = sym (length_part keys a c h)
-
-  pub part-rest : length keys ≤ a + c → length keys - a ≡ length (part keys a c)
+  pub part-long : length (part keys a c) ≡ min c (length keys - a)
   unfolding part
-  part-rest h = sym (ap length (take_all c (drop a keys) (omega (arith, length-drop a keys))) ∙ length-drop a keys)
+  part-long = length-take c (drop a keys) ∙ ap (min c) (length-drop a keys)
 
   pub part-short : (length (part keys a c) ≤ c) × (length (part keys a c) ≤ length keys)
-  unfolding part
-  part-short = let e = length-take c (drop a keys) in let d = length-drop a keys in (omega arith, omega arith)
+  part-short = (omega (arith, part-long), omega (arith, part-long))

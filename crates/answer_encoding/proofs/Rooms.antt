@@ -1,5 +1,5 @@
 -- Room for what is worked out of a job, for what is gathered of it, and for its answer.
-use mathlib.Core.Path.{◌≡◌, refl, sym, subst}
+use mathlib.Core.Path.{◌≡◌, refl, sym, ap, subst}
 use mathlib.Core.List.{List}
 use Prim.Native.Nat.{ℕ, ◌+◌, ◌*◌, ◌≤◌}
 use native.Mathlib.Omega.{arith}
@@ -32,16 +32,16 @@ work-room a b h k l f =
       ranks = record { first-room = omega arith; second-room = omega arith; third-room = omega arith };
     }
 
-pub gather-arrays : {n m count : ℕ} (most b : ℕ) → count ≤ most → most ≤ 4096 → m + n ≤ b
-    → GatherArrays n m count (4 * most) (replicate (6 * most) 0) (replicate most 0) (replicate b 0) (replicate b 0)
-gather-arrays most b h k l =
+pub gather-arrays : {n m count links : ℕ} (most b : ℕ) → links ≡ 6 * most → count ≤ most → most ≤ 4096 → m + n ≤ b
+    → GatherArrays n m count (4 * most) (replicate links 0) (replicate most 0) (replicate b 0) (replicate b 0)
+gather-arrays most b e h k l =
     let y = length-replicate {A = ℕ} b 0 in
     record {
       most = most;
       heads-are = refl;
       most-room = h;
       most-few = k;
-      links-new = refl;
+      links-new = ap (λ (k : ℕ). replicate k 0) e;
       owned-new = refl;
       seen-room = omega arith;
       places-room = omega arith;
@@ -102,21 +102,6 @@ module _ {s : List ℕ} {at n ats m from count : ℕ} (j : JobPlaces s at n ats 
           linked = rw (g.heads-are, links-new, owned-new) (linked-zero g.most g.most-few);
           standing = w.standing;
         }
-
--- Equal numbers, equal facts.
-pub work-same : {n m n' m' count : ℕ} {firsts first second third starts counts keys : List ℕ} → n' ≡ n → m' ≡ m
-    → WorkRoom n m count firsts first second third starts counts keys → WorkRoom n' m' count firsts first second third starts counts keys
-work-same a b w = rw (a, b) w
-
-pub arrays-same : {n m n' m' count heads : ℕ} {links owned seen places : List ℕ} → n' ≡ n → m' ≡ m → GatherArrays n m count heads links owned seen places
-    → GatherArrays n' m' count heads links owned seen places
-arrays-same a b g = rw (a, b) g
-
-pub worked_same : {s : List ℕ} {at n ats m from at' n' ats' m' from' count : ℕ} {order plan stands firsts first second third starts counts keys : List ℕ}
-    → at' ≡ at → n' ≡ n → ats' ≡ ats → m' ≡ m → from' ≡ from
-    → WorkedOut s at n ats m from count order plan stands firsts first second third starts counts keys
-    → WorkedOut s at' n' ats' m' from' count order plan stands firsts first second third starts counts keys
-worked_same a b c d e w = rw (a, b, c, d, e) w
 
 pub answered-same : {ks ls : List Boundary} {before after : List ℕ} {r : ℕ} → ks ≡ ls → Answered (encode_answer ks) before after r
     → Answered (encode_answer ls) before after r

@@ -1,26 +1,14 @@
 // The answer from what was worked out by place: what is kept is gathered, then written.
-ghost use Rattle.std.specs.Prelude.{◌+◌, ◌≤◌};
+ghost use Rattle.std.specs.Prelude.{◌≡◌, ◌+◌, ◌*◌, ◌≤◌};
 ghost use Rattle.format.specs.Encode.{encode_answer};
 ghost use Rattle.answer_encoding.specs.Answered.{Answered, Answerable, WorkedFor, GatherArrays, kept_of};
 
-use crate::by_place::{FEW_PLACES, FEW_SOURCES, MOST_PLACES, MOST_SOURCES};
 use crate::whole::write_kept;
 use answer_gathering::kept::gather_kept;
 use format::Header;
-use wire::size;
-
-// The heads that a small job's sources are looked up by, and any job's: four for each source.
-const FEW_HEADS: usize = 4 * FEW_SOURCES;
-
-const MOST_HEADS: usize = 4 * MOST_SOURCES;
-
-// Their links: the heads, and two more for each source.
-const FEW_LINKS: usize = 6 * FEW_SOURCES;
-
-const MOST_LINKS: usize = 6 * MOST_SOURCES;
 
 // The answer, gathered in arrays that are lent.
-fn write_gathered(
+fn write_gathered_in(
     job: &[u8],
     h: Header,
     order: &[u32; 256],
@@ -48,10 +36,10 @@ fn write_gathered(
 {
     let c = h.counts;
     let o = h.offsets;
-    let at = size(o.boundaries);
-    let n = size(c.boundaries);
-    let from = size(o.sources);
-    let base = size(c.observations);
+    let at = o.boundaries as usize;
+    let n = c.boundaries as usize;
+    let from = o.sources as usize;
+    let base = c.observations as usize;
     let mut kept = [0u32; 256];
     let mut owns = [0u32; 256];
     let mut seens = [0u32; 256];
@@ -65,8 +53,9 @@ fn write_gathered(
     )
 }
 
-// The answer of a small job; the arrays to gather in are this function's own.
-pub fn write_small_gathered(
+// The answer of a job of at most SOURCES sources, and PLACES boundaries and observations together; the arrays to gather in are this
+// function's own. Sources are looked up by four heads for each: LINKS has those, and two more for each source.
+pub fn write_gathered<const SOURCES: usize, const PLACES: usize, const LINKS: usize>(
     job: &[u8],
     h: Header,
     order: &[u32; 256],
@@ -83,15 +72,16 @@ pub fn write_small_gathered(
 ) -> usize
     requires { Answerable job.now h order.now
         × WorkedFor job.now h order.now plan.now stands.now firsts.now first.now second.now third.now starts.now counts.now keys.now
-        × (h.counts.boundaries + h.counts.observations ≤ 64) × (h.counts.sources ≤ 512) }
+        × (h.counts.observations + h.counts.boundaries ≤ PLACES) × (h.counts.sources ≤ SOURCES) × (SOURCES ≤ 4096) × (PLACES ≤ 1280)
+        × (LINKS ≡ 6 * SOURCES) }
     ensures { Answered (encode_answer (kept_of job.now order.now plan.now)) answer.old answer.new
         result }
 {
-    let mut links = [0u16; FEW_LINKS];
-    let mut owned = [0u16; FEW_SOURCES];
-    let mut seen = [0u32; FEW_PLACES];
-    let mut places = [0u32; FEW_PLACES];
-    write_gathered(
+    let mut links = [0u16; LINKS];
+    let mut owned = [0u16; SOURCES];
+    let mut seen = [0u32; PLACES];
+    let mut places = [0u32; PLACES];
+    write_gathered_in(
         job,
         h,
         order,
@@ -104,54 +94,7 @@ pub fn write_small_gathered(
         starts,
         counts,
         keys,
-        FEW_HEADS,
-        &mut links,
-        &mut owned,
-        &mut seen,
-        &mut places,
-        answer,
-    )
-}
-
-// The answer of any job.
-pub fn write_large_gathered(
-    job: &[u8],
-    h: Header,
-    order: &[u32; 256],
-    plan: &[u32; 256],
-    stands: &[u32; 256],
-    firsts: &[u32],
-    first: &[u64],
-    second: &[u64],
-    third: &[u64],
-    starts: &[u32],
-    counts: &[u32],
-    keys: &[u64],
-    answer: &mut [u8],
-) -> usize
-    requires { Answerable job.now h order.now
-        × WorkedFor job.now h order.now plan.now stands.now firsts.now first.now second.now third.now starts.now counts.now keys.now }
-    ensures { Answered (encode_answer (kept_of job.now order.now plan.now)) answer.old answer.new
-        result }
-{
-    let mut links = [0u16; MOST_LINKS];
-    let mut owned = [0u16; MOST_SOURCES];
-    let mut seen = [0u32; MOST_PLACES];
-    let mut places = [0u32; MOST_PLACES];
-    write_gathered(
-        job,
-        h,
-        order,
-        plan,
-        stands,
-        firsts,
-        first,
-        second,
-        third,
-        starts,
-        counts,
-        keys,
-        MOST_HEADS,
+        4 * SOURCES,
         &mut links,
         &mut owned,
         &mut seen,

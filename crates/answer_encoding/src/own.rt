@@ -7,7 +7,7 @@ ghost use Rattle.answer_sorting.specs.Parts.{placed_sources};
 ghost use Rattle.answer_encoding.specs.Pieces.{own_piece};
 ghost use Rattle.answer_encoding.specs.Answered.{OwnPieceRoom};
 
-use crate::reads::place;
+use crate::reads::read_or;
 use answer_sorting::sources::sort_sources;
 use format::SOURCE_SIZE;
 use wire::{read_u64, write_u64};
@@ -17,11 +17,9 @@ fn write_places(s: &mut [u8], at: usize, job: &[u8], from: usize, owned: &[u16],
     requires { OwnPieceRoom job.now from owned.now a n at s.old }
     ensures { s.new ≡ splice s.old at (flat_map source_bytes (placed_sources job.now from owned.now a n)) }
 {
-    let mut i: usize = 0;
-    while i < n {
-        let p = from + place(owned, a + i) * SOURCE_SIZE;
+    for i in 0..n {
+        let p = from + read_or(owned, a + i, 0) as usize * SOURCE_SIZE;
         write_u64(s, at + i * SOURCE_SIZE, read_u64(job, p));
-        i += 1;
     }
 }
 

@@ -7,7 +7,7 @@ ghost use Rattle.format.specs.Records.{source_bytes, boundary_bytes};
 ghost use Rattle.format.specs.Encode.{answer_words};
 ghost use Rattle.answer_encoding.specs.Pieces.{key_source, kept_record};
 
-use crate::units::{high, low};
+use crate::units::halves;
 use format::{
     ANSWER_BOUNDARY_SIZE, ANSWER_HEADER_SIZE, BoundaryRecord, OBSERVATION_SIZE, SOURCE_SIZE,
     write_ramp, write_span,
@@ -27,8 +27,9 @@ pub fn write_source(s: &mut [u8], at: usize, key: u64)
     requires { at + source_size ≤ length s.old }
     ensures { s.new ≡ splice s.old at (source_bytes (key_source key)) }
 {
-    write_u32(s, at, high(key));
-    write_u32(s, at + 4, low(key));
+    let (from, to) = halves(key);
+    write_u32(s, at, from);
+    write_u32(s, at + 4, to);
 }
 
 // A boundary of the job, as it is kept.

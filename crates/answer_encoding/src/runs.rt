@@ -5,7 +5,7 @@ ghost use Rattle.format.specs.Sizes.{source_size};
 ghost use Rattle.answer_encoding.specs.Pieces.{run_from, run_length, runs_from};
 ghost use Rattle.answer_encoding.specs.Answered.{RunsWritten};
 
-use crate::reads::{index, long, word};
+use crate::reads::read_or;
 use crate::records::write_source;
 use format::SOURCE_SIZE;
 
@@ -13,17 +13,9 @@ use format::SOURCE_SIZE;
 pub fn run_length(starts: &[u32], counts: &[u32], keys: &[u64], p: usize) -> u32
     ensures { result ≡ run_length starts.now counts.now keys.now p }
 {
-    let a = index(starts, p);
-    let c = word(counts, p);
-    let n = index(counts, p);
-    let most = keys.len();
-    if a + n <= most {
-        return c;
-    }
-    if a <= most {
-        return (most - a) as u32;
-    }
-    0
+    let a = read_or(starts, p, 0) as usize;
+    let n = read_or(counts, p, 0) as usize;
+    n.min(keys.len().saturating_sub(a)) as u32
 }
 
 // The sources of `count` numbers from `from` on.
@@ -31,10 +23,8 @@ pub fn write_run(s: &mut [u8], at: usize, keys: &[u64], from: usize, count: usiz
     requires { (at + count * source_size ≤ length s.old) × (from ≤ 0x1_0000_0000) × (count ≤ 0x1_0000_0000) }
     ensures { s.new ≡ splice s.old at (run_from keys.now from count) }
 {
-    let mut i: usize = 0;
-    while i < count {
-        write_source(s, at + i * SOURCE_SIZE, long(keys, from + i));
-        i += 1;
+    for i in 0..count {
+        write_source(s, at + i * SOURCE_SIZE, read_or(keys, from + i, 0));
     }
 }
 
@@ -54,13 +44,11 @@ pub fn write_runs(
         s.new result }
 {
     let mut to = at;
-    let mut i: usize = 0;
-    while i < n {
-        let p = index(seen, from + i);
+    for i in 0..n {
+        let p = read_or(seen, from + i, 0) as usize;
         let count = run_length(starts, counts, keys, p) as usize;
-        write_run(s, to, keys, index(starts, p), count);
+        write_run(s, to, keys, read_or(starts, p, 0) as usize, count);
         to += count * SOURCE_SIZE;
-        i += 1;
     }
     to
 }

@@ -7,7 +7,7 @@ ghost use Rattle.answer_encoding.specs.Pieces.{pieces, kept_piece, place_piece, 
 ghost use Rattle.answer_encoding.specs.Answered.{BoundaryRoom, SourceRoom};
 
 use crate::own::write_own;
-use crate::reads::{index, long, word};
+use crate::reads::read_or;
 use crate::records::write_boundary;
 use crate::runs::{run_length, write_runs};
 use crate::units::{bits_of, span_of};
@@ -30,17 +30,12 @@ pub fn write_boundaries(
     ensures { s.new ≡ splice s.old to
         (pieces count (kept_piece (boundary_rows job.now at) kept.now owns.now seens.now)) }
 {
-    let mut k: usize = 0;
-    while k < count {
-        let x = read_boundary(job, at + index(kept, k) * BOUNDARY_SIZE);
-        write_boundary(
-            s,
-            to + k * ANSWER_BOUNDARY_SIZE,
-            x,
-            word(owns, k),
-            word(seens, k),
-        );
-        k += 1;
+    for k in 0..count {
+        let b = read_or(kept, k, 0) as usize;
+        let x = read_boundary(job, at + b * BOUNDARY_SIZE);
+        let own = read_or(owns, k, 0);
+        let seen = read_or(seens, k, 0);
+        write_boundary(s, to + k * ANSWER_BOUNDARY_SIZE, x, own, seen);
     }
 }
 
@@ -60,8 +55,8 @@ pub fn write_place(
     ensures { s.new ≡ splice s.old at
         (place_piece first.now second.now third.now starts.now counts.now keys.now p) }
 {
-    let e = span_of(long(first, p), long(second, p));
-    let bits = bits_of(long(third, p));
+    let e = span_of(read_or(first, p, 0), read_or(second, p, 0));
+    let bits = bits_of(read_or(third, p, 0));
     write_observation(s, at, e, bits, run_length(starts, counts, keys, p));
 }
 
@@ -82,9 +77,8 @@ pub fn write_observations(
         (pieces count (λ q. place_piece first.now second.now third.now starts.now counts.now
         keys.now (get_or seen.now q 0))) }
 {
-    let mut q: usize = 0;
-    while q < count {
-        let p = index(seen, q);
+    for q in 0..count {
+        let p = read_or(seen, q, 0) as usize;
         write_place(
             s,
             to + q * OBSERVATION_SIZE,
@@ -96,7 +90,6 @@ pub fn write_observations(
             counts,
             keys,
         );
-        q += 1;
     }
 }
 
@@ -123,14 +116,12 @@ pub fn write_sources(
     let mut to = at;
     let mut a: usize = 0;
     let mut q: usize = 0;
-    let mut k: usize = 0;
-    while k < count {
-        let own = index(owns, k);
-        let n = index(seens, k);
+    for k in 0..count {
+        let own = read_or(owns, k, 0) as usize;
+        let n = read_or(seens, k, 0) as usize;
         write_own(s, to, job, from, owned, a, own);
         to = write_runs(s, to + own * SOURCE_SIZE, seen, q, n, starts, counts, keys);
         a += own;
         q += n;
-        k += 1;
     }
 }

@@ -3,7 +3,7 @@ ghost use Rattle.std.specs.Prelude.{◌≡◌, ◌*◌, ◌≤◌, length};
 ghost use Rattle.answer_sources.specs.Laying.{sum_below, elements};
 ghost use Rattle.answer_encoding.specs.Pieces.{cited_total};
 
-use crate::reads::index;
+use crate::reads::read_or;
 use crate::runs::run_length;
 
 pub fn sum_first(xs: &[u32], n: usize) -> usize
@@ -11,10 +11,8 @@ pub fn sum_first(xs: &[u32], n: usize) -> usize
     ensures { result ≡ sum_below (elements xs.now) n }
 {
     let mut t: usize = 0;
-    let mut i: usize = 0;
-    while i < n {
-        t += index(xs, i);
-        i += 1;
+    for i in 0..n {
+        t += read_or(xs, i, 0) as usize;
     }
     t
 }
@@ -25,10 +23,9 @@ pub fn sum_runs(seen: &[u32], n: usize, starts: &[u32], counts: &[u32], keys: &[
     ensures { (result ≡ cited_total seen.now starts.now counts.now keys.now n) × (result ≤ n * 4096) }
 {
     let mut t: usize = 0;
-    let mut i: usize = 0;
-    while i < n {
-        t += run_length(starts, counts, keys, index(seen, i)) as usize;
-        i += 1;
+    for i in 0..n {
+        let p = read_or(seen, i, 0) as usize;
+        t += run_length(starts, counts, keys, p) as usize;
     }
     t
 }

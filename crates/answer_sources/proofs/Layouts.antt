@@ -149,24 +149,17 @@ module _ {stands s : List ℕ} {at n ats base : ℕ} (g : Countable s at n ats b
           (λ d. (cited-kept (sum_below seen c + k) (earlier c k (omega arith) j)).1 ∙ l.laid.cited-count c k (omega arith) j);
     }
 
-    -- the layout of one more, in lists that are as long
-    pub layout-next : {f i j : ℕ} → length firsts ≡ f → length starts ≡ i → length counts ≡ j
-        → Layout stands own seen cited base n (set firsts b p) starts' counts' (b + 1) (p + w) r × (length (set firsts b p) ≡ f) × (length starts' ≡ i)
-        × (length counts' ≡ j)
-    layout-next d e f = (
-      record {
-        place = omega (arith, below_next seen b, l.place, y);
-        running = omega (arith, t.end, l.running, below_next own b, x);
-        laid = laid_next;
-        clear = t.clear;
-        firsts-room = simp length-set l.firsts-room;
-        starts-room = rw t.starts-long (simp length-set l.starts-room);
-        counts-room = rw t.counts-long (simp length-set l.counts-room);
-      },
-      length-set firsts b p ∙ d,
-      t.starts-long ∙ length-set starts (base + b) run ∙ e,
-      t.counts-long ∙ length-set counts (base + b) v ∙ f,
-    )
+    -- the layout of one more
+    pub layout-next : Layout stands own seen cited base n (set firsts b p) starts' counts' (b + 1) (p + w) r
+    layout-next = record {
+      place = omega (arith, below_next seen b, l.place, y);
+      running = omega (arith, t.end, l.running, below_next own b, x);
+      laid = laid_next;
+      clear = t.clear;
+      firsts-room = simp length-set l.firsts-room;
+      starts-room = rw t.starts-long (simp length-set l.starts-room);
+      counts-room = rw t.counts-long (simp length-set l.counts-room);
+    }
 
 pub layout-end : {stands s : List ℕ} {at n ats base : ℕ} → Countable s at n ats base → {firsts starts counts : List ℕ} {b p run : ℕ}
     → Layout stands (own_count s at) (seen_count s at) (cited_count s ats) base n firsts starts counts b p run → b ≤ n → n ≤ b

@@ -55,13 +55,6 @@ key-as : {f g h : List ℕ} {q p : ℕ} {e d : Span} {b c : ℕ} → KeyAt f g h
 key-as k i j l = rw (← i, ← j, ← l) k
 
 module _ {ends : ℕ → Span} {bits : ℕ → ℕ} {from i : ℕ} {f₀ g₀ h₀ f g h : List ℕ} (r : RankKeys ends bits from i f₀ g₀ h₀ f g h) where
-  pub ranks-after : {n : ℕ} → RankRoom f₀ g₀ h₀ n → RankRoom f g h n
-  ranks-after o = record {
-    first-room = omega (arith, o.first-room, r.first-long);
-    second-room = omega (arith, o.second-room, r.second-long);
-    third-room = omega (arith, o.third-room, r.third-long);
-  }
-
   pub ranked-next : {q b : ℕ} {e : Span} {f' g' h' : List ℕ} → RankKeys (λ k. e) (λ k. b) q 1 f g h f' g' h' → q ≡ from + i → e ≡ ends i → b ≡ bits i
       → RankKeys ends bits from (i + 1) f₀ g₀ h₀ f' g' h'
   ranked-next {q} t p x y = record {

@@ -55,9 +55,6 @@ module _ {s : List ℕ} {at n ats m from count : ℕ} (j : JobPlaces s at n ats 
   pub places-few : m + n ≤ 1280
   places-few = omega (arith, j.countable.observation-limit, j.countable.boundary-limit)
 
-  pub observations-inside : ats + m * 28 ≤ length s
-  observations-inside = omega (arith, j.observations-add, j.countable.observations-in)
-
   -- Room to read and to sort the parts, once they are laid.
   module _ {stands keys₀ spare firsts₀ firsts starts₀ starts counts₀ counts f g h : List ℕ} (r : PlaceRoom n m count keys₀ spare firsts₀ starts₀ counts₀ f g h)
       (l : LaidAll stands (own_count s at) (seen_count s at) (cited_count s ats) m n firsts starts counts)

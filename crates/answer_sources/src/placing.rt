@@ -7,7 +7,8 @@ ghost use Rattle.answer_sources.specs.Placed.{CopiesPlaced, PlacedInside, JobPla
 use crate::keys::read_keys;
 use crate::laying::lay_boundaries;
 use crate::parts::sort_parts;
-use crate::ranking::{rank_boundaries, rank_observations};
+use crate::ranking::rank_records;
+use format::{BOUNDARY_SIZE, OBSERVATION_SIZE, read_boundary, read_observation};
 
 pub fn place_all(
     job: &[u8],
@@ -38,6 +39,14 @@ pub fn place_all(
     lay_boundaries(job, at, n, ats, m, stands, firsts, starts, counts);
     read_keys(job, from, starts, counts, m + n, keys);
     sort_parts(keys, spare, starts, counts, m + n);
-    rank_observations(job, ats, m, first, second, third);
-    rank_boundaries(job, at, n, m, first, second, third);
+    let observation = |p| {
+        let o = read_observation(job, ats + p * OBSERVATION_SIZE);
+        (o.ends, o.bits)
+    };
+    rank_records(observation, m, 0, first, second, third);
+    let boundary = |p| {
+        let x = read_boundary(job, at + p * BOUNDARY_SIZE);
+        (x.ends, x.bits)
+    };
+    rank_records(boundary, n, m, first, second, third);
 }

@@ -1,11 +1,9 @@
 // What observations are ordered by before their sources: ends and width.
-ghost use Rattle.std.specs.Prelude.{◌+◌, ◌*◌, ◌≤◌, length};
-ghost use Rattle.format.specs.Sizes.{boundary_size, observation_size};
-ghost use Rattle.format.specs.Records.{boundary_at, observation_at};
+ghost use Rattle.std.specs.Prelude.{◌≡◌, ℕ, ◌+◌, ◌<◌};
+ghost use Rattle.position.specs.declared.Span.{Span};
 ghost use Rattle.answer_sources.specs.Ranked.{RankRoom, RankKeys};
 
 use crate::casts::packed;
-use format::{BOUNDARY_SIZE, OBSERVATION_SIZE, read_boundary, read_observation};
 use length::floats::total_key;
 use position::Span;
 
@@ -30,45 +28,23 @@ fn rank_one(
     third[q] = total_key(bits);
 }
 
-// The n observations from `at` on, each at its place.
-pub fn rank_observations(
-    job: &[u8],
-    at: usize,
-    n: usize,
-    first: &mut [u64],
-    second: &mut [u64],
-    third: &mut [u64],
-)
-    requires { (at + n * observation_size ≤ length job.now) × RankRoom first.old second.old third.old n }
-    ensures { RankKeys (λ k. (observation_at job.now (at + k * observation_size)).ends)
-        (λ k. (observation_at job.now (at + k * observation_size)).bits) 0 n first.old second.old third.old
-        first.new second.new third.new }
-{
-    for p in 0..n {
-        let o = read_observation(job, at + p * OBSERVATION_SIZE);
-        let ends = o.ends;
-        rank_one(ends, o.bits, p, first, second, third);
-    }
-}
-
-// The n boundaries from `at` on, each at `base` and its place.
-pub fn rank_boundaries(
-    job: &[u8],
-    at: usize,
+// n records, each at `base` and its place; `read` gives each one's ends and width.
+pub fn rank_records<F: Fn(usize) -> (Span, u64)>(
+    read: F,
     n: usize,
     base: usize,
     first: &mut [u64],
     second: &mut [u64],
     third: &mut [u64],
 )
-    requires { (at + n * boundary_size ≤ length job.now) × RankRoom first.old second.old third.old (base + n) }
-    ensures { RankKeys (λ k. (boundary_at job.now (at + k * boundary_size)).ends)
-        (λ k. (boundary_at job.now (at + k * boundary_size)).bits) base n first.old second.old third.old
-        first.new second.new third.new }
+    requires readable { (k : ℕ) → k < n → F.pre read k }
+    requires room { RankRoom first.old second.old third.old (base + n) }
+    ensures { (ends : ℕ → Span) (bits : ℕ → ℕ)
+        → ((k : ℕ) → k < n → (r : _) → F.post read k r → (r.0 ≡ ends k) × (r.1 ≡ bits k))
+        → RankKeys ends bits base n first.old second.old third.old first.new second.new third.new }
 {
     for p in 0..n {
-        let x = read_boundary(job, at + p * BOUNDARY_SIZE);
-        let ends = x.ends;
-        rank_one(ends, x.bits, base + p, first, second, third);
+        let (ends, bits) = read(p);
+        rank_one(ends, bits, base + p, first, second, third);
     }
 }

@@ -4,7 +4,8 @@ use mathlib.Core.List.{List, [], ◌∷◌, ◌++◌, append_assoc, append-nil}
 use Prim.Native.Nat.{ℕ, suc, ◌+◌, ◌≤◌, ◌<◌}
 use native.Mathlib.Omega.{arith}
 use lib.ListN.{length, set, get_or, drop, length-append, drop_of_length-le}
-use lib.Seq.{drop-cons}
+use lib.Seq.{drop-drop}
+use borrow.Rule.Slice.PartMut.{put_mid}
 use Rattle.wire.specs.Bytes.{splice}
 use Rattle.wire.proofs.Parts.{splice-none, set-splice, length-splice, splice-splice}
 use Rattle.answer_text.specs.Answer.{TextRoom, Writes}
@@ -70,27 +71,7 @@ module _ {whole out : List ℕ} {at : ℕ} where
 pub byte-writes : (b : ℕ) (s : List ℕ) (at : ℕ) → at < length s → Writes (b ∷ []) s at (set s at b) (at + 1)
 byte-writes b s at h = record { is = set-splice s at b h; end = refl }
 
--- The first i bytes of a text that stands elsewhere are copied.
-abbrev pub Copied : List ℕ → List ℕ → ℕ → List ℕ → ℕ → Type 0
-Copied t out at now i = Left t out at (drop i t ∷ []) now (at + i)
-
-module _ (t out : List ℕ) (at : ℕ) where
-  pub copied-start : TextRoom t out at → Copied t out at out 0
-  copied-start h =
-      let e : at ≡ at + 0 = omega arith in
-      subst (λ (p : ℕ). Left t out at (t ∷ []) out p) e (start (t ∷ []) (append-nil t) h)
-
-  pub copied_next : (now : List ℕ) (i : ℕ) → i < length t → Copied t out at now i → Copied t out at (set now (at + i) (get_or t i 0)) (i + 1)
-  copied_next now i h l =
-      let e : suc i ≡ i + 1 = omega arith in
-      let f : at + i + 1 ≡ at + (i + 1) = omega arith in
-      let m = retell ((get_or t i 0 ∷ []) ∷ drop (i + 1) t ∷ [])
-      (ap (λ (x : List ℕ). x ++ []) (drop-cons t i 0 h ∙ ap (λ (k : ℕ). get_or t i 0 ∷ drop k t) e)) l in
-      subst (λ (p : ℕ). Left t out at (drop (i + 1) t ∷ []) (set now (at + i) (get_or t i 0)) p) f
-      (next m (byte-writes (get_or t i 0) now (at + i) (omega (arith, room m))))
-
-  pub copied-end : (now : List ℕ) (i n : ℕ) → n ≡ length t → n ≤ i → i ≤ n → Copied t out at now i → Writes t out at now (at + n)
-  copied-end now i n e h k l =
-      let f : at + i ≡ at + n = omega arith in
-      let g : length t ≤ i = omega arith in
-      subst (λ (p : ℕ). Writes t out at now p) f (done (retell [] (ap (λ (x : List ℕ). x ++ []) (drop_of_length-le t g)) l))
+-- A text that was copied over a part as long as it.
+pub copied : (text out : List ℕ) (at n : ℕ) {mid : List ℕ} → mid ≡ text → n ≡ length text → Writes text out at (put_mid at n out mid) (at + length text)
+unfolding splice
+copied text out at n e h = record { is = rw (e, h, drop-drop (length text) at out) refl; end = refl }

@@ -31,10 +31,8 @@ fn write_digits(v: u64, base: u64, k: usize, out: &mut [u8], at: usize)
     requires { (1 < base) × (base ≤ 16) × (at + k ≤ length out.old) }
     ensures { out.new ≡ splice out.old at (last_digits base k v) }
 {
-    let mut i = k;
     let mut rest = v;
-    while 0 < i {
-        i -= 1;
+    for i in (0..k).rev() {
         out[at + i] = glyph(rest % base);
         rest /= base;
     }

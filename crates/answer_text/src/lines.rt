@@ -22,11 +22,7 @@ pub fn write_text(text: &[u8], out: &mut [u8], at: usize) -> usize
     ensures { Writes text.now out.old at out.new result }
 {
     let n = text.len();
-    let mut i = 0;
-    while i < n {
-        out[at + i] = text[i];
-        i += 1;
-    }
+    out[at..at + n].copy_from_slice(text);
     at + n
 }
 

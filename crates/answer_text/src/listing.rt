@@ -6,7 +6,7 @@ ghost use Rattle.answer_text.specs.Answer.{TextRoom, Writes, answer_text};
 use crate::lines::{write_byte, write_pair, write_text, write_word};
 use crate::walk::{Cursor, write_boundaries};
 use format::{ANSWER_BOUNDARY_SIZE, ANSWER_HEADER_SIZE, OBSERVATION_SIZE, SOURCE_SIZE};
-use wire::{read_u32, size};
+use wire::read_u32;
 
 fn write_kept(n: u32, out: &mut [u8], at: usize) -> usize
     requires { TextRoom (kept_line n) out.old at }
@@ -28,9 +28,9 @@ pub fn write_listing(answer: &[u8], out: &mut [u8]) -> usize
         return 0;
     }
     let kept = read_u32(answer, 0);
-    let b = size(kept);
-    let o = size(read_u32(answer, 4));
-    let s = size(read_u32(answer, 8));
+    let b = kept as usize;
+    let o = read_u32(answer, 4) as usize;
+    let s = read_u32(answer, 8) as usize;
     let observation = ANSWER_HEADER_SIZE + b * ANSWER_BOUNDARY_SIZE;
     let source = observation + o * OBSERVATION_SIZE;
     let total = source + s * SOURCE_SIZE;
@@ -42,10 +42,10 @@ pub fn write_listing(answer: &[u8], out: &mut [u8]) -> usize
     }
     let at = write_kept(kept, out, 0);
     let c = Cursor {
-        at: at,
-        observation: observation,
+        at,
+        observation,
         observations: o,
-        source: source,
+        source,
         sources: s,
     };
     write_boundaries(answer, ANSWER_HEADER_SIZE, b, c, out)

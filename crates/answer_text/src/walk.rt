@@ -1,5 +1,5 @@
 // The records of an answer in the order of the listing.
-ghost use Rattle.std.specs.Prelude.{◌≡◌, ◌+◌, ◌*◌, ◌≤◌, ◌<◌, min, length, take};
+ghost use Rattle.std.specs.Prelude.{◌+◌, ◌*◌, ◌≤◌, ◌<◌, length, take};
 ghost use Rattle.format.specs.Sizes.{answer_boundary_size, source_size};
 ghost use Rattle.format.specs.Records.{boundary_at, observation_at};
 ghost use Rattle.format.specs.Decode.{source_records, boundary_records, observations_with, boundary_with, boundaries_with, source_count};
@@ -22,25 +22,15 @@ pub struct Cursor {
     pub sources: usize,
 }
 
-// The lesser of a count and of how many are left.
-fn least(n: u32, left: usize) -> usize
-    ensures { result ≡ min n left }
-{
-    let k = n as usize;
-    if k < left { k } else { left }
-}
-
 // The s lines of n sources from a place of the answer on.
 fn write_sources(answer: &[u8], from: usize, n: usize, out: &mut [u8], at: usize) -> usize
     requires { (from + n * source_size ≤ length answer.now) × TextRoom (source_lines (source_records answer.now from n)) out.old at }
     ensures { Writes (source_lines (source_records answer.now from n)) out.old at out.new result }
 {
-    let mut i = 0;
     let mut end = at;
-    while i < n {
+    for i in 0..n {
         let s = read_source(answer, from + i * SOURCE_SIZE);
         end = write_source(s, out, end);
-        i += 1;
     }
     end
 }
@@ -55,7 +45,7 @@ fn write_observation(answer: &[u8], c: Cursor, out: &mut [u8]) -> Cursor
     let source = c.source;
     let left = c.sources;
     let o = read_observation(answer, place);
-    let n = least(o.sources, left);
+    let n = (o.sources as usize).min(left);
     let end = write_observation_line(o, n, out, c.at);
     let last = write_sources(answer, source, n, out, end);
     Cursor {
@@ -75,11 +65,9 @@ fn write_observations(answer: &[u8], n: usize, c: Cursor, out: &mut [u8]) -> Cur
         out.old c.at out.new result.at }
     ensures moved { Moved answer.now c result n (source_count (take n (observations_at answer.now c))) }
 {
-    let mut i = 0;
     let mut d = c;
-    while i < n {
+    for i in 0..n {
         d = write_observation(answer, d, out);
-        i += 1;
     }
     d
 }
@@ -100,8 +88,8 @@ fn write_boundary(answer: &[u8], place: usize, c: Cursor, out: &mut [u8]) -> Cur
     let source = c.source;
     let left = c.sources;
     let b = read_boundary(answer, place);
-    let n = least(b.sources, left);
-    let m = least(b.observations, c.observations);
+    let n = (b.sources as usize).min(left);
+    let m = (b.observations as usize).min(c.observations);
     let end = write_boundary_line(b, n, m, out, c.at);
     let last = write_sources(answer, source, n, out, end);
     let d = Cursor {
@@ -123,11 +111,9 @@ pub fn write_boundaries(answer: &[u8], place: usize, n: usize, c: Cursor, out: &
         (boundaries_with (boundary_records answer.now place n) (observations_at answer.now c) (sources_at answer.now c)))
         out.old c.at out.new result }
 {
-    let mut i = 0;
     let mut d = c;
-    while i < n {
+    for i in 0..n {
         d = write_boundary(answer, place + i * ANSWER_BOUNDARY_SIZE, d, out);
-        i += 1;
     }
     d.at
 }
