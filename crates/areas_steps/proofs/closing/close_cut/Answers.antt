@@ -17,7 +17,7 @@ loop-c-init c =
 pub close_line-requires : goal.close_line-requires
 close_line-requires c =
     let p = c.requires in
-    (p.0, p.1, omega (arith, c.loop-c.invariant.1), omega (arith, c.loop-c-test.true, (axis-last _ c.requires.0 c.strip_axis-range.ensures).0))
+    (omega (arith, c.loop-c.invariant.1), omega (arith, c.loop-c-test.true, (axis-last _ c.requires.0 c.strip_axis-range.ensures).0))
 
 pub overflow_add-c-end : goal.overflow_add-c-end
 overflow_add-c-end c =

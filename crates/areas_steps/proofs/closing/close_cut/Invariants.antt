@@ -11,4 +11,4 @@ use Rattle.areas_steps.proofs.closing.close_cut.Given as goal
 abbrev pub invariant-loop-c : goal.invariant-loop-c
 invariant-loop-c l = (l.initial.c ≤ l.c) × (length l.work ≡ length l.initial.work)
     × ((g : Grid) (dirs : List ℕ) (ss : List Span) (before : List ℕ) → MapOf l.width l.height g → WorkHolds l.base (size g) (open_byte dirs g ss) before l.initial.work
-    → Half l.base g dirs ss l.span (l.c * 1024) before l.work)
+    → Half l.base g dirs ss l.fn.span (l.c * 1024) before l.work)

@@ -5,43 +5,43 @@ use native.Mathlib.Omega.{arith}
 use Rattle.areas.specs.Strip.{tall}
 use Rattle.areas.specs.declared.candidates.CellRange.{CellRange}
 use Rattle.areas_steps.proofs.Halves.{sides-of, half-skip, half_at, before-minor, past-minor, place-fits, rank-place, limit-small, minor-last}
-use Rattle.areas_steps.proofs.closing.close_line.Goals as goal
+use Rattle.areas_steps.proofs.closing.Cut.close_line.Goals as goal
 
 pub strip_minor-range-requires : goal.strip_minor-range-requires
 strip_minor-range-requires c =
-    let q = limit-small c.requires.0 (tall c.args.span) in
-    (c.requires.0, c.requires.1, omega (arith, c.requires.3))
+    let q = limit-small c.args.self.sides (tall c.args.self.span) in
+    (c.args.self.sides, c.args.self.fits, omega (arith, c.requires.1))
 
 pub loop-cm-init : goal.loop-cm-init
 loop-cm-init c =
-    let p = c.requires in
+    let p = c.args.self in
     let e = ap (λ (r : CellRange). r.first) c.strip_minor-range.ensures in (
       omega arith,
       refl,
-      λ g dirs ss b m hf. half-skip g m.whole (sides-of m p.0) _ p.1.ordered _ (omega arith)
-          (λ i l q r z. before-minor m p.0 c.args.span c.args.c i l q (omega arith) z) hf,
+      λ g dirs ss b m hf. half-skip g m.whole (sides-of m p.sides) _ p.fits.ordered _ (omega arith)
+          (λ i l q r z. before-minor m p.sides c.args.self.span c.args.c i l q (omega arith) z) hf,
     )
 
 pub close_cell-requires : goal.close_cell-requires
 close_cell-requires c =
     let is-tall = c.is_tall-tall.ensures in
-    let p = c.requires in
+    let p = c.args.self in
     let d = c.args.c in
     let cm = c.loop-cm.cm in
     let e = c.place_at.ensures in
-    let f = place-fits (tall c.args.span) _ _ d cm _ _ p.3 (omega (arith, (minor-last _ _ c.requires.0 c.strip_minor-range.ensures).0, c.loop-cm-test.true))
+    let f = place-fits (tall c.args.self.span) _ _ d cm _ _ c.requires.1 (omega (arith, (minor-last _ _ c.args.self.sides c.strip_minor-range.ensures).0, c.loop-cm-test.true))
     (e.0 ∙ ap (λ t. cond t cm d) is-tall) (e.1 ∙ ap (λ t. cond t d cm) is-tall) in
-    (p.0, p.1, omega (arith, c.loop-cm.invariant.1), f.0, f.1)
+    (omega (arith, c.loop-cm.invariant.1), f.0, f.1)
 
 pub overflow_add-cm-end : goal.overflow_add-cm-end
 overflow_add-cm-end c =
-    omega (arith, (minor-last _ _ c.requires.0 c.strip_minor-range.ensures))
+    omega (arith, (minor-last _ _ c.args.self.sides c.strip_minor-range.ensures))
 
 pub loop-cm-preserved : goal.loop-cm-preserved
 loop-cm-preserved c =
     let inv = c.loop-cm.invariant in
     let cm = c.loop-cm.cm in
-    let small : cm < 1024 = omega (arith, c.loop-cm-test.true, (minor-last _ _ c.requires.0 c.strip_minor-range.ensures)) in
+    let small : cm < 1024 = omega (arith, c.loop-cm-test.true, (minor-last _ _ c.args.self.sides c.strip_minor-range.ensures)) in
     let r = rank-place _ _ _ cm _ _ c.is_tall-tall.ensures c.place_at.ensures.0 c.place_at.ensures.1 in (
       omega arith,
       c.close_cell.auto.work ∙ inv.1,
@@ -51,8 +51,8 @@ loop-cm-preserved c =
 pub returns : goal.returns
 returns c =
     let a = c.args in
-    let p = c.requires in
+    let p = c.args.self in
     let e = ap (λ (r : CellRange). r.last) c.strip_minor-range.ensures in
     let past = c.loop-cm-test.false in
-    λ g dirs ss b m hf. half-skip g m.whole (sides-of m p.0) _ p.1.ordered _ (omega arith)
-    (λ i l q r z. past-minor m p.0 a.span a.c c.loop-cm.cm i l (omega arith) q r z) (c.loop-cm.invariant.2 g dirs ss b m hf)
+    λ g dirs ss b m hf. half-skip g m.whole (sides-of m p.sides) _ p.fits.ordered _ (omega arith)
+    (λ i l q r z. past-minor m p.sides a.self.span a.c c.loop-cm.cm i l (omega arith) q r z) (c.loop-cm.invariant.2 g dirs ss b m hf)
