@@ -29,18 +29,69 @@ pub fn max(a: u32, b: u32) -> u32
     a.max(b)
 }
 
-fn cross_plus(a: PixelPosition, b: PixelPosition, point: PixelPosition) -> u32
-    requires { Bounded a × Bounded b × Bounded point }
-    ensures { result ≡ cross_plus a b point }
-{
-    product(a.x, b.y) + product(b.x, point.y) + product(point.x, a.y)
+// The closed segment from a to b, and the line through it.
+#[derive(Clone, Copy)]
+struct Segment {
+    a: PixelPosition,
+    b: PixelPosition,
+    ghost bounded: { Bounded a × Bounded b },
 }
 
-fn cross_minus(a: PixelPosition, b: PixelPosition, point: PixelPosition) -> u32
-    requires { Bounded a × Bounded b × Bounded point }
-    ensures { result ≡ cross_minus a b point }
-{
-    product(a.x, point.y) + product(b.x, a.y) + product(point.x, b.y)
+impl Segment {
+    fn cross_plus(self, point: PixelPosition) -> u32
+        requires { Bounded point }
+        ensures { result ≡ cross_plus self.a self.b point }
+    {
+        let a = self.a;
+        let b = self.b;
+        product(a.x, b.y) + product(b.x, point.y) + product(point.x, a.y)
+    }
+
+    fn cross_minus(self, point: PixelPosition) -> u32
+        requires { Bounded point }
+        ensures { result ≡ cross_minus self.a self.b point }
+    {
+        let a = self.a;
+        let b = self.b;
+        product(a.x, point.y) + product(b.x, a.y) + product(point.x, b.y)
+    }
+
+    // The point is strictly on the positive side of the line.
+    fn above(self, point: PixelPosition) -> bool
+        requires { Bounded point }
+        ensures { result ≡ above self.a self.b point }
+    {
+        self.cross_minus(point) < self.cross_plus(point)
+    }
+
+    // Strictly on the negative side. A function beside `above`, for with the ends exchanged there it would not say which side.
+    fn below(self, point: PixelPosition) -> bool
+        requires { Bounded point }
+        ensures { result ≡ below self.a self.b point }
+    {
+        self.cross_plus(point) < self.cross_minus(point)
+    }
+
+    // The other's ends are strictly on opposite sides.
+    fn parts(self, other: Segment) -> bool
+        ensures { result ≡ opposite self.a self.b other.a other.b }
+    {
+        (self.below(other.a) & self.above(other.b)) | (self.above(other.a) & self.below(other.b))
+    }
+
+    // The point is on the segment.
+    fn has(self, point: PixelPosition) -> bool
+        requires { Bounded point }
+        ensures { result ≡ on_segment self.a self.b point }
+    {
+        let a = self.a;
+        let b = self.b;
+        let x = point.x;
+        let y = point.y;
+        (self.cross_plus(point) == self.cross_minus(point))
+            & (((a.x.min(b.x) <= x) & (x <= a.x.max(b.x)))
+                & ((a.y.min(b.y) <= y) & (y <= a.y.max(b.y))))
+    }
 }
 
 // The side of the point is not negative; on the line it is zero.
@@ -48,43 +99,8 @@ pub fn side(a: PixelPosition, b: PixelPosition, point: PixelPosition) -> bool
     requires { Bounded a × Bounded b × Bounded point }
     ensures { result ≡ side a b point }
 {
-    cross_minus(a, b, point) <= cross_plus(a, b, point)
-}
-
-// Strictly on the positive side.
-fn above(a: PixelPosition, b: PixelPosition, point: PixelPosition) -> bool
-    requires { Bounded a × Bounded b × Bounded point }
-    ensures { result ≡ above a b point }
-{
-    cross_minus(a, b, point) < cross_plus(a, b, point)
-}
-
-// Strictly on the negative side. A function beside `above`, for with the ends exchanged there it would not say which side.
-fn below(a: PixelPosition, b: PixelPosition, point: PixelPosition) -> bool
-    requires { Bounded a × Bounded b × Bounded point }
-    ensures { result ≡ below a b point }
-{
-    cross_plus(a, b, point) < cross_minus(a, b, point)
-}
-
-// The points are strictly on opposite sides.
-fn strictly_opposite(a: PixelPosition, b: PixelPosition, c: PixelPosition, d: PixelPosition) -> bool
-    requires { Bounded a × Bounded b × Bounded c × Bounded d }
-    ensures { result ≡ opposite a b c d }
-{
-    (below(a, b, c) & above(a, b, d)) | (above(a, b, c) & below(a, b, d))
-}
-
-// The point is on the closed segment from a to b.
-fn on_segment(a: PixelPosition, b: PixelPosition, point: PixelPosition) -> bool
-    requires { Bounded a × Bounded b × Bounded point }
-    ensures { result ≡ on_segment a b point }
-{
-    let x = point.x;
-    let y = point.y;
-    (cross_plus(a, b, point) == cross_minus(a, b, point))
-        & (((a.x.min(b.x) <= x) & (x <= a.x.max(b.x)))
-            & ((a.y.min(b.y) <= y) & (y <= a.y.max(b.y))))
+    let line = Segment { a, b };
+    line.cross_minus(point) <= line.cross_plus(point)
 }
 
 // The closed segments from a to b and from c to d have a common point.
@@ -97,9 +113,10 @@ pub fn segments_intersect(
     requires { Bounded a × Bounded b × Bounded c × Bounded d }
     ensures { result ≡ meets a b c d }
 {
-    (strictly_opposite(a, b, c, d) & strictly_opposite(c, d, a, b))
-        | ((on_segment(a, b, c) | on_segment(a, b, d))
-            | (on_segment(c, d, a) | on_segment(c, d, b)))
+    let one = Segment { a, b };
+    let other = Segment { a: c, b: d };
+    (one.parts(other) & other.parts(one))
+        | ((one.has(c) | one.has(d)) | (other.has(a) | other.has(b)))
 }
 
 // The span, whose earlier end is listed first, cuts the segment between two positions.

@@ -15,53 +15,14 @@ use areas::geometry::cut_by;
 use grid::neighbors::{leads_on, place_to};
 use position::{Span, WalkPosition};
 
-// The bit of direction d at the cell at a place of the map, where the span cuts no step, and else 0.
-fn keep_bit(bit: u8, span: Span, width: u32, height: u32, position: WalkPosition, d: u32) -> u8
-    requires { Sides width height × SpanFits width height span × (position.x < width) × (position.y < height) × (d < 9) }
-    ensures { ((g : Grid) (i : ℕ) (t : Bool) → MapOf width height g → column_of g i ≡ position.x → row_of g i ≡ position.y
-        → (t ≡ true → leads_on g i d ≡ true) → bit ≡ bit_of t → result ≡ bit_of (t && not (cut_by g span (step_of i (neighbour g i d))))) × (result ≤ 1) }
-{
-    if bit == 0 {
-        return 0;
-    }
-    if !leads_on(width, height, position, d) {
-        return 0;
-    }
-    if cut_by(span, position, place_to(position, d)) {
-        return 0;
-    }
-    1
-}
-
-// The byte of the cell at a place of the map, with one more span.
-fn close_byte(byte: u8, span: Span, width: u32, height: u32, position: WalkPosition) -> u8
-    requires { Sides width height × SpanFits width height span × (position.x < width) × (position.y < height) }
-    ensures { (g : Grid) (dirs : List ℕ) (ss : List Span) (i : ℕ) → MapOf width height g → column_of g i ≡ position.x → row_of g i ≡ position.y
-        → byte ≡ open_byte dirs g ss i → result ≡ open_byte dirs g (ss ++ (span ∷ [])) i }
-{
-    let right = keep_bit(byte % 2, span, width, height, position, 5);
-    let below_left = keep_bit(byte / 2 % 2, span, width, height, position, 6);
-    let below = keep_bit(byte / 4 % 2, span, width, height, position, 7);
-    let below_right = keep_bit(byte / 8 % 2, span, width, height, position, 8);
-    right + 2 * below_left + 4 * below + 8 * below_right
-}
-
-// Takes the steps that the span cuts out of the byte of one cell.
-fn close_cell(
+// A span on a map.
+#[derive(Clone, Copy)]
+struct Cut {
     span: Span,
     width: u32,
     height: u32,
-    position: WalkPosition,
-    work: &mut [u8],
-    base: usize,
-)
-    requires { Sides width height × SpanFits width height span × (base + width * height ≤ length work.old) × (position.x < width)
-        × (position.y < height) }
-    ensures { Closes width height base span (rank_at span position.x position.y) (rank_at span position.x position.y + 1) work.old
-        work.new }
-{
-    let i = byte_of(width, position, base);
-    work[i] = close_byte(work[i], span, width, height, position);
+    ghost sides: { Sides width height },
+    ghost fits: { SpanFits width height span },
 }
 
 // The place at c along a span and cm on the other axis.
@@ -74,15 +35,59 @@ fn place_at(tall: bool, c: u32, cm: u32) -> WalkPosition
     WalkPosition { x: c, y: cm }
 }
 
-// Takes them out of the bytes of the strip's cells at c along the span.
-fn close_line(span: Span, width: u32, height: u32, c: u32, work: &mut [u8], base: usize)
-    requires { Sides width height × SpanFits width height span × (base + width * height ≤ length work.old) × (c < cond (tall span) height width) }
-    ensures { Closes width height base span (c * 1024) ((c + 1) * 1024) work.old work.new }
-{
-    let tall = is_tall(span);
-    let range = strip_minor(span, width, height, c);
-    for cm in range.first..range.last + 1 {
-        close_cell(span, width, height, place_at(tall, c, cm), work, base);
+impl Cut {
+    // The bit of direction d at the cell at a place of the map, where the span cuts no step, and else 0.
+    fn keep_bit(self, bit: u8, position: WalkPosition, d: u32) -> u8
+        requires { (position.x < self.width) × (position.y < self.height) × (d < 9) }
+        ensures { ((g : Grid) (i : ℕ) (t : Bool) → MapOf self.width self.height g → column_of g i ≡ position.x → row_of g i ≡ position.y
+            → (t ≡ true → leads_on g i d ≡ true) → bit ≡ bit_of t
+            → result ≡ bit_of (t && not (cut_by g self.span (step_of i (neighbour g i d))))) × (result ≤ 1) }
+    {
+        if bit == 0 {
+            return 0;
+        }
+        if !leads_on(self.width, self.height, position, d) {
+            return 0;
+        }
+        if cut_by(self.span, position, place_to(position, d)) {
+            return 0;
+        }
+        1
+    }
+
+    // The byte of the cell at a place of the map, with one more span.
+    fn close_byte(self, byte: u8, position: WalkPosition) -> u8
+        requires { (position.x < self.width) × (position.y < self.height) }
+        ensures { (g : Grid) (dirs : List ℕ) (ss : List Span) (i : ℕ) → MapOf self.width self.height g → column_of g i ≡ position.x
+            → row_of g i ≡ position.y → byte ≡ open_byte dirs g ss i → result ≡ open_byte dirs g (ss ++ (self.span ∷ [])) i }
+    {
+        let right = self.keep_bit(byte % 2, position, 5);
+        let below_left = self.keep_bit(byte / 2 % 2, position, 6);
+        let below = self.keep_bit(byte / 4 % 2, position, 7);
+        let below_right = self.keep_bit(byte / 8 % 2, position, 8);
+        right + 2 * below_left + 4 * below + 8 * below_right
+    }
+
+    // Takes the steps that the span cuts out of the byte of one cell.
+    fn close_cell(self, position: WalkPosition, work: &mut [u8], base: usize)
+        requires { (base + self.width * self.height ≤ length work.old) × (position.x < self.width) × (position.y < self.height) }
+        ensures { Closes self.width self.height base self.span (rank_at self.span position.x position.y)
+            (rank_at self.span position.x position.y + 1) work.old work.new }
+    {
+        let i = byte_of(self.width, position, base);
+        work[i] = self.close_byte(work[i], position);
+    }
+
+    // Takes them out of the bytes of the strip's cells at c along the span.
+    fn close_line(self, c: u32, work: &mut [u8], base: usize)
+        requires { (base + self.width * self.height ≤ length work.old) × (c < cond (tall self.span) self.height self.width) }
+        ensures { Closes self.width self.height base self.span (c * 1024) ((c + 1) * 1024) work.old work.new }
+    {
+        let tall = is_tall(self.span);
+        let range = strip_minor(self.span, self.width, self.height, c);
+        for cm in range.first..range.last + 1 {
+            self.close_cell(place_at(tall, c, cm), work, base);
+        }
     }
 }
 
@@ -93,8 +98,13 @@ pub fn close_cut(span: Span, width: u32, height: u32, work: &mut [u8], base: usi
         → WorkHolds base (size g) (open_byte dirs g ss) before work.old
         → WorkHolds base (size g) (open_byte dirs g (ss ++ (span ∷ []))) before work.new }
 {
+    let cut = Cut {
+        span,
+        width,
+        height,
+    };
     let range = strip_axis(span, width, height);
     for c in range.first..range.last + 1 {
-        close_line(span, width, height, c, work, base);
+        cut.close_line(c, work, base);
     }
 }

@@ -3,8 +3,9 @@ ghost use Rattle.std.specs.Prelude.{◌≡◌, ◌&&◌, List, [], ℕ, ◌+◌,
 ghost use Rattle.order.specs.Lists.{has};
 ghost use Rattle.lists.specs.Rows.{rows};
 ghost use Rattle.wire.specs.Bytes.{splice};
+ghost use Rattle.grid.specs.Cells.{map_of};
 ghost use Rattle.grid.specs.Directions.{directions_of};
-ghost use Rattle.grid.specs.Steps.{has_step, CellPlace};
+ghost use Rattle.grid.specs.Steps.{has_step};
 ghost use Rattle.areas.specs.Open.{bit_of, open_byte};
 ghost use Rattle.areas.specs.Spans.{Sides};
 ghost use Rattle.areas_steps.specs.Marks.{WorkHolds};
@@ -21,62 +22,59 @@ pub fn byte_of(width: u32, position: WalkPosition, base: usize) -> usize
     base + index(width, position) as usize
 }
 
-// 1 where the direction is in the set and a step leads in it from the cell at a place of the map, else 0.
-fn open_bit(
-    cells: &[u8],
+// A map, and the directions of its steps.
+#[derive(Clone, Copy)]
+struct Terrain<'a> {
+    cells: &'a [u8],
     width: u32,
     height: u32,
     directions: u32,
-    position: WalkPosition,
-    d: u32,
-) -> u8
-    requires { CellPlace width height cells.now position × (d < 9) }
-    ensures { (result ≡ bit_of
-        (has d (directions_of directions) && has_step (record { width = width; height = height; cells = cells.now })
-        (position.y * width + position.x) d)) × (result ≤ 1) }
-{
-    if !has_direction(directions, d) {
-        return 0;
-    }
-    if !step_at(cells, width, height, position, d) {
-        return 0;
-    }
-    1
+    ghost sides: { Sides width height },
+    ghost whole: { length cells.now ≡ width * height },
 }
 
-// The byte of the cell at a place of the map, where no step is cut.
-fn open_byte(cells: &[u8], width: u32, height: u32, directions: u32, position: WalkPosition) -> u8
-    requires { CellPlace width height cells.now position }
-    ensures { result ≡ open_byte (directions_of directions) (record { width = width; height = height; cells = cells.now }) []
-        (position.y * width + position.x) }
-{
-    let right = open_bit(cells, width, height, directions, position, 5);
-    let below_left = open_bit(cells, width, height, directions, position, 6);
-    let below = open_bit(cells, width, height, directions, position, 7);
-    let below_right = open_bit(cells, width, height, directions, position, 8);
-    right + 2 * below_left + 4 * below + 8 * below_right
-}
+impl<'a> Terrain<'a> {
+    // 1 where the direction is in the set and a step leads in it from the cell at a place of the map, else 0.
+    fn open_bit(self, position: WalkPosition, d: u32) -> u8
+        requires { (position.x < self.width) × (position.y < self.height) × (d < 9) }
+        ensures { let t = self.entry in
+            (result ≡ bit_of (has d (directions_of t.directions) && has_step (map_of t.width t.height t.cells.now) (position.y * t.width + position.x) d))
+            × (result ≤ 1) }
+    {
+        if !has_direction(self.directions, d) {
+            return 0;
+        }
+        if !step_at(self.cells, self.width, self.height, position, d) {
+            return 0;
+        }
+        1
+    }
 
-// Writes the bytes of a row, where those of the rows above are written.
-fn open_row(
-    cells: &[u8],
-    width: u32,
-    height: u32,
-    directions: u32,
-    y: u32,
-    work: &mut [u8],
-    base: usize,
-)
-    requires { Sides width height × (length cells.now ≡ width * height) × (base + width * height ≤ length work.old) × (y < height) }
-    ensures { (before : List ℕ)
-        → WorkHolds base (y * width) (open_byte (directions_of directions) (record { width = width; height = height; cells = cells.now }) []) before
-        work.old → WorkHolds base ((y + 1) * width)
-        (open_byte (directions_of directions) (record { width = width; height = height; cells = cells.now }) []) before work.new }
-{
-    for x in 0..width {
-        let position = WalkPosition { x, y };
-        let i = byte_of(width, position, base);
-        work[i] = open_byte(cells, width, height, directions, position);
+    // The byte of the cell at a place of the map, where no step is cut.
+    fn open_byte(self, position: WalkPosition) -> u8
+        requires { (position.x < self.width) × (position.y < self.height) }
+        ensures { let t = self.entry in
+            result ≡ open_byte (directions_of t.directions) (map_of t.width t.height t.cells.now) [] (position.y * t.width + position.x) }
+    {
+        let right = self.open_bit(position, 5);
+        let below_left = self.open_bit(position, 6);
+        let below = self.open_bit(position, 7);
+        let below_right = self.open_bit(position, 8);
+        right + 2 * below_left + 4 * below + 8 * below_right
+    }
+
+    // Writes the bytes of a row, where those of the rows above are written.
+    fn open_row(self, y: u32, work: &mut [u8], base: usize)
+        requires { (base + self.width * self.height ≤ length work.old) × (y < self.height) }
+        ensures { let t = self.entry in
+            let f = open_byte (directions_of t.directions) (map_of t.width t.height t.cells.now) [] in
+            (before : List ℕ) → WorkHolds base (y * t.width) f before work.old → WorkHolds base ((y + 1) * t.width) f before work.new }
+    {
+        for x in 0..self.width {
+            let position = WalkPosition { x, y };
+            let i = byte_of(self.width, position, base);
+            work[i] = self.open_byte(position);
+        }
     }
 }
 
@@ -94,7 +92,13 @@ pub fn open_steps(
         (rows (length cells.now)
         (open_byte (directions_of directions) (record { width = width; height = height; cells = cells.now }) [])) }
 {
+    let terrain = Terrain {
+        cells,
+        width,
+        height,
+        directions,
+    };
     for y in 0..height {
-        open_row(cells, width, height, directions, y, work, base);
+        terrain.open_row(y, work, base);
     }
 }

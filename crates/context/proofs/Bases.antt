@@ -22,7 +22,7 @@ use Rattle.areas.specs.Words.{word, labels_in}
 use Rattle.areas.proofs.Words.{label-in}
 use Rattle.context.specs.Anchors.{optional, anchors_of, is_anchored}
 use Rattle.context.specs.Held.{is_none}
-use Rattle.context.specs.AnchorLoop.{Hit, anchors_in, anchor_labels, LabelAdded, LabelsRead}
+use Rattle.context.specs.AnchorLoop.{anchors_in, anchor_labels, LabelAdded, LabelsRead}
 
 -- no label is added where there is no anchor
 pub none-added : {width : ℕ} {ls : List ℕ} {p : WalkPosition} {anchors : List ℕ} {found : ℕ} → is_none p ≡ true

@@ -10,8 +10,8 @@ ghost use Rattle.context.specs.Cards.{card_size, card_bytes, cards as cards_of};
 ghost use Rattle.context_cards.specs.Filling.{Fillable, Zeroed, CardRoom, card_place, card_read, cell_counted};
 
 use areas_components::zero_fill;
-use context::stats::{RegionStats, next_column, next_row, one};
-use wire::{read_u32, size, write_u32};
+use context::stats::{RegionStats, next_column, next_row};
+use wire::{read_u32, write_u32};
 
 pub const CARD_SIZE: usize = 40;
 
@@ -53,7 +53,7 @@ fn write_levels(cards: &mut [u8], at: usize, s: RegionStats)
     ensures { cards.new ≡ splice cards.old at
         (words (cond s.has_ramp 1 0 ∷ s.level_0 ∷ s.level_1 ∷ s.level_2 ∷ s.level_3 ∷ [])) }
 {
-    let ramp = one(s.has_ramp);
+    let ramp = u32::from(s.has_ramp);
     write_u32(cards, at, ramp);
     write_u32(cards, at + 4, s.level_0);
     write_u32(cards, at + 8, s.level_1);
@@ -81,7 +81,7 @@ fn place_of(label: u32) -> usize
     requires { 0 < label }
     ensures { result ≡ card_place label }
 {
-    CARD_SIZE * size(label - 1)
+    CARD_SIZE * (label - 1) as usize
 }
 
 // One cell more in the card of its label; 0, the label of blocked cells, has none.
@@ -115,11 +115,9 @@ pub fn write_cards(cells: &[u8], width: u32, labels: &[u8], areas: usize, cards:
     clear(cards, CARD_SIZE * areas);
     let mut column: u32 = 0;
     let mut row: u32 = 0;
-    let mut i: usize = 0;
-    while i < n {
+    for i in 0..n {
         count_cell(cards, label_of(labels, i), column, row, cells[i]);
         row = next_row(column, row, width);
         column = next_column(column, width);
-        i += 1;
     }
 }

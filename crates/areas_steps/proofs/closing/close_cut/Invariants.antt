@@ -1,7 +1,5 @@
 use mathlib.Core.List.{List}
-use mathlib.Core.Path.{◌≡◌}
-use Prim.Native.Nat.{ℕ, ◌*◌, ◌≤◌}
-use lib.ListN.{length}
+use Prim.Native.Nat.{ℕ, ◌*◌}
 use Rattle.areas.specs.Open.{open_byte}
 use Rattle.grid.specs.Cells.{Grid, size}
 use Rattle.position.specs.declared.Span.{Span}
@@ -9,6 +7,6 @@ use Rattle.areas_steps.specs.Marks.{MapOf, WorkHolds, Half}
 use Rattle.areas_steps.proofs.closing.close_cut.Given as goal
 
 abbrev pub invariant-loop-c : goal.invariant-loop-c
-invariant-loop-c l = (l.initial.c ≤ l.c) × (length l.work ≡ length l.initial.work)
-    × ((g : Grid) (dirs : List ℕ) (ss : List Span) (before : List ℕ) → MapOf l.width l.height g → WorkHolds l.base (size g) (open_byte dirs g ss) before l.initial.work
-    → Half l.base g dirs ss l.span (l.c * 1024) before l.work)
+invariant-loop-c l =
+    (g : Grid) (dirs : List ℕ) (ss : List Span) (before : List ℕ) → MapOf l.width l.height g
+    → WorkHolds l.base (size g) (open_byte dirs g ss) before l.initial.work → Half l.base g dirs ss l.fn.span (l.c * 1024) before l.work

@@ -1,5 +1,5 @@
 use mathlib.Core.Path.{◌≡◌}
-use Prim.Native.Nat.{ℕ, ◌≤◌}
+use Prim.Native.Nat.{ℕ}
 use lib.ListN.{length}
 use Rattle.grid.specs.Cells.{map_of}
 use Rattle.areas.specs.Words.{labels_in}
@@ -7,5 +7,5 @@ use Rattle.context.specs.Held.{stats_after, first_cells}
 use Rattle.context.proofs.stats.region_stats.Given as goal
 
 abbrev pub invariant-loop-i : goal.invariant-loop-i
-invariant-loop-i l = (l.i ≤ length l.cells)
-    × ((height : ℕ) → l.stats ≡ stats_after (map_of l.width height l.cells) (first_cells (labels_in l.labels (length l.cells)) l.region l.i))
+invariant-loop-i l =
+    (height : ℕ) → l.stats ≡ stats_after (map_of l.width height l.cells) (first_cells (labels_in l.labels (length l.cells)) l.region l.i)

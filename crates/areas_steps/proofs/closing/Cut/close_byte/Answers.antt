@@ -1,11 +1,11 @@
 use mathlib.Core.Path.{sym, ◌∙◌, ap}
 use Rattle.areas.specs.Open.{bit_of, is_open}
 use Rattle.areas_steps.proofs.Bits.{bits, byte-is, byte-from, open-last, open-leads}
-use Rattle.areas_steps.proofs.closing.close_byte.Goals as goal
+use Rattle.areas_steps.proofs.closing.Cut.close_byte.Goals as goal
 
 pub returns : goal.returns
 returns c =
-    let s = c.args.span in
+    let s = c.args.self.span in
     λ g dirs ss i m e f eb.
     let t = is_open dirs g ss i in
     let b = bits _ (t 0) (t 1) (t 2) (t 3) (eb ∙ byte-is dirs g ss i) in

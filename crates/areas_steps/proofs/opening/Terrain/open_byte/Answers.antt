@@ -2,7 +2,7 @@ use mathlib.Core.List.{[]}
 use mathlib.Core.Path.{◌∙◌, ap}
 use Rattle.areas.specs.Open.{bit_of}
 use Rattle.areas_steps.proofs.Bits.{byte-from, open_none}
-use Rattle.areas_steps.proofs.opening.open_byte.Goals as goal
+use Rattle.areas_steps.proofs.opening.Terrain.open_byte.Goals as goal
 
 pub returns : goal.returns
 returns c =

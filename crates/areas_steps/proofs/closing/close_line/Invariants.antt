@@ -1,9 +1,0 @@
-use mathlib.Core.Path.{◌≡◌}
-use Prim.Native.Nat.{◌+◌, ◌*◌, ◌≤◌, min}
-use lib.ListN.{length}
-use Rattle.areas_steps.specs.Marks.{Closes}
-use Rattle.areas_steps.proofs.closing.close_line.Given as goal
-
-abbrev pub invariant-loop-cm : goal.invariant-loop-cm
-invariant-loop-cm l = (l.initial.cm ≤ l.cm) × (length l.work ≡ length l.initial.work)
-    × Closes l.width l.height l.base l.span (l.c * 1024) (l.c * 1024 + min l.cm 1024) l.initial.work l.work
