@@ -30,4 +30,5 @@ module _ (s ys : List ℕ) (start end v : ℕ) (h : start ≤ end) (room : end �
   pub run-long : length (put_mid start (end - start) s ys) ≡ length s
   run-long =
       let after = drop (end - start) (drop start s) in
-      omega (arith, length-append (take start s) (ys ++ after), length-append ys after, front, size, length-drop (end - start) (drop start s), length-drop start s)
+      let less = length-drop (end - start) (drop start s) in
+      omega (arith, length-append (take start s) (ys ++ after), length-append ys after, front, size, less, length-drop start s)

@@ -22,6 +22,18 @@ pub struct Assessed {
     pub end: usize,
 }
 
+// A map with its labels and the directions of its steps, and a span on it.
+#[derive(Clone, Copy)]
+pub(crate) struct SpannedMap<'a> {
+    pub(crate) cells: &'a [u8],
+    pub(crate) width: u32,
+    pub(crate) height: u32,
+    pub(crate) directions: u32,
+    pub(crate) labels: &'a [u8],
+    pub(crate) span: Span,
+    ghost on_map: { SpanOnMap width height cells.now labels.now span },
+}
+
 // Counts a step from cell i to cell j, and puts its pair in if their labels differ.
 fn count_step(
     labels: &[u8],
@@ -58,75 +70,64 @@ fn count_step(
     }
 }
 
-// Counts the step in a direction from the cell at a place, if the direction is in the set and the span cuts the step.
-fn assess_step(
-    cells: &[u8],
-    width: u32,
-    height: u32,
-    directions: u32,
-    labels: &[u8],
-    span: Span,
-    position: WalkPosition,
-    d: u32,
-    lefts: &mut [u32],
-    rights: &mut [u32],
-    start: usize,
-    state: Assessed,
-) -> Assessed
-    requires { SpanOnMap width height cells.now labels.now span × (position.x < width) × (position.y < height) × (d < 9)
-        × StepRoom start 1 lefts.old rights.old state }
-    ensures grown { Grown (length lefts.old) start 1 state result }
-    ensures advances { Advances (length lefts.old) (labels_in labels.now (width * height))
-        (cut_in (directions_of directions) (map_of width height cells.now) span (position.y * width + position.x) d) start lefts.old
-        rights.old state lefts.new rights.new result }
-{
-    if !has_direction(directions, d) {
-        return state;
+impl SpannedMap<'_> {
+    // Counts the step in a direction from the cell at a place, if the direction is in the set and the span cuts the step.
+    fn assess_step(
+        &self,
+        position: WalkPosition,
+        d: u32,
+        lefts: &mut [u32],
+        rights: &mut [u32],
+        start: usize,
+        state: Assessed,
+    ) -> Assessed
+        requires { (position.x < self.now.width) × (position.y < self.now.height) × (d < 9) × StepRoom start 1 lefts.old rights.old state }
+        ensures grown { Grown (length lefts.old) start 1 state result }
+        ensures advances { Advances (length lefts.old) (labels_in self.now.labels.now (self.now.width * self.now.height))
+            (cut_in (directions_of self.now.directions) (map_of self.now.width self.now.height self.now.cells.now) self.now.span
+            (position.y * self.now.width + position.x) d) start lefts.old rights.old state lefts.new rights.new result }
+    {
+        if !has_direction(self.directions, d) {
+            return state;
+        }
+        if !step_at(self.cells, self.width, self.height, position, d) {
+            return state;
+        }
+        let to = place_to(position, d);
+        if !cut_by(self.span, position, to) {
+            return state;
+        }
+        let from = index(self.width, position);
+        count_step(
+            self.labels,
+            from,
+            index(self.width, to),
+            lefts,
+            rights,
+            start,
+            state,
+        )
     }
-    if !step_at(cells, width, height, position, d) {
-        return state;
-    }
-    let to = place_to(position, d);
-    if !cut_by(span, position, to) {
-        return state;
-    }
-    count_step(
-        labels,
-        index(width, position),
-        index(width, to),
-        lefts,
-        rights,
-        start,
-        state,
-    )
-}
 
-// Counts the steps that the span cuts from the cell at a place to later cells.
-pub fn assess_cell(
-    cells: &[u8],
-    width: u32,
-    height: u32,
-    directions: u32,
-    labels: &[u8],
-    span: Span,
-    position: WalkPosition,
-    lefts: &mut [u32],
-    rights: &mut [u32],
-    start: usize,
-    state: Assessed,
-) -> Assessed
-    requires { SpanOnMap width height cells.now labels.now span × (position.x < width) × (position.y < height)
-        × StepRoom start 4 lefts.old rights.old state }
-    ensures grown { Grown (length lefts.old) start 4 state result }
-    ensures advances { Advances (length lefts.old) (labels_in labels.now (width * height))
-        (cut_from (directions_of directions) (map_of width height cells.now) span (position.y * width + position.x)) start lefts.old
-        rights.old state lefts.new rights.new result }
-{
-    let mut done = state;
-    for d in 5..9 {
-        done = assess_step(
-            cells, width, height, directions, labels, span, position, d, lefts, rights, start, done,
-        );
+    // Counts the steps that the span cuts from the cell at a place to later cells.
+    pub(crate) fn assess_cell(
+        &self,
+        position: WalkPosition,
+        lefts: &mut [u32],
+        rights: &mut [u32],
+        start: usize,
+        state: Assessed,
+    ) -> Assessed
+        requires { (position.x < self.now.width) × (position.y < self.now.height) × StepRoom start 4 lefts.old rights.old state }
+        ensures grown { Grown (length lefts.old) start 4 state result }
+        ensures advances { Advances (length lefts.old) (labels_in self.now.labels.now (self.now.width * self.now.height))
+            (cut_from (directions_of self.now.directions) (map_of self.now.width self.now.height self.now.cells.now) self.now.span
+            (position.y * self.now.width + position.x)) start lefts.old rights.old state lefts.new rights.new result }
+    {
+        let mut done = state;
+        for d in 5..9 {
+            done = self.assess_step(position, d, lefts, rights, start, done);
+        }
+        done
     }
-    done
 }

@@ -1,5 +1,5 @@
 -- Joins taken back, last first.
-use mathlib.Core.Path.{◌≡◌, refl, sym, ◌∙◌, ap}
+use mathlib.Core.Path.{◌≡◌, refl, sym, ◌∙◌, ap, subst}
 use mathlib.Core.Logic.{by_cases}
 use mathlib.Core.List.{List}
 use Prim.Native.Nat.{ℕ, zero, suc, ◌+◌, ◌-◌, ◌≤◌, ◌<◌}
@@ -111,9 +111,8 @@ module _ {start s : ForestTables} {n m k : ℕ} (u : Undoing start n m s k) (lef
     rest = sym last ∙ u.rest;
   }
 
-  pub undoing-next : (parents heights : List ℕ) → parents ≡ (taken_back s (k - 1)).parents → heights ≡ (taken_back s (k - 1)).heights → Undoing start n m
-      (forest_tables parents heights s.joined s.earlier) (k - 1)
-  undoing-next parents heights p h = rw (p, h) stepped
+  pub undoing-next : {t : ForestTables} → t ≡ taken_back s (k - 1) → Undoing start n m t (k - 1)
+  undoing-next e = subst (λ (t : ForestTables). Undoing start n m t (k - 1)) (sym e) stepped
 
 pub undoing-end : {start s : ForestTables} {n m k : ℕ} → Undoing start n m s k → (n < k → ⊥) → s ≡ undone start n (m - n)
 undoing-end {start} {s} {n} {m} {k} u h =

@@ -11,6 +11,7 @@ ghost use Rattle.marks_closing.specs.Log.{forest_tables};
 ghost use Rattle.marks_closing.specs.Marks.{choke_marks};
 ghost use Rattle.marks_closing.specs.Ranges.{ListedRecords, ClearedForest, LentTables};
 
+use forest::Forest;
 use ranges::close_range;
 
 // The number of boundaries that a job can have.
@@ -45,8 +46,23 @@ pub fn close_boundaries(
 {
     *marks = [0u8; 256];
     clear(parents, heights);
+    let mut forest = Forest {
+        parents,
+        heights,
+        joined,
+        earlier,
+    };
     close_range(
-        owners, lefts, rights, count, 0, count, 0, BOUNDARIES, parents, heights, joined, earlier,
-        0, marks,
+        owners,
+        lefts,
+        rights,
+        count,
+        0,
+        count,
+        0,
+        BOUNDARIES,
+        &mut forest,
+        0,
+        marks,
     );
 }

@@ -4,11 +4,12 @@ ghost use Rattle.lists.specs.Rows.{at};
 ghost use Rattle.graph.specs.Path.{Edge};
 ghost use Rattle.graph.specs.Slices.{Graph};
 ghost use Rattle.marks_closing.specs.Forest.{HeightTrees, RootedForest};
-ghost use Rattle.marks_closing.specs.Log.{forest_tables, LogRoom, GrownForest, adding};
+ghost use Rattle.marks_closing.specs.Log.{LogRoom, GrownForest, adding};
+ghost use Rattle.marks_closing.specs.Tables.{tables};
 ghost use Rattle.marks_closing.specs.Marks.{bit};
 ghost use Rattle.marks_closing.specs.Ranges.{RisingOwners, OwnersSplit, some_parted, OpenRange, ClosedRange};
 
-use crate::forest::{find, join, undo};
+use crate::forest::Forest;
 
 // Joins the ends of the records from `from` up to `to`. How long the log is then.
 fn join_records(
@@ -16,41 +17,28 @@ fn join_records(
     rights: &[u32],
     from: usize,
     to: usize,
-    parents: &mut [u32],
-    heights: &mut [u32],
-    joined: &mut [u32],
-    earlier: &mut [u32],
+    forest: &mut Forest,
     n: usize,
 ) -> usize
-    requires { (from ≤ to) × Graph to (length parents.old) lefts.now rights.now × LogRoom
-        (forest_tables parents.old heights.old joined.old earlier.old) n (to - from) }
-    ensures { GrownForest (adding lefts.now rights.now from (to - from)) (to - from)
-        (forest_tables parents.old heights.old joined.old earlier.old) n
-        (forest_tables parents.new heights.new joined.new earlier.new) result }
+    requires { (from ≤ to) × Graph to (length forest.old.parents.now) lefts.now rights.now × LogRoom (tables forest.old) n (to - from) }
+    ensures { GrownForest (adding lefts.now rights.now from (to - from)) (to - from) (tables forest.old) n (tables forest.new) result }
 {
     let mut m = n;
     for k in from..to {
-        m = join(parents, heights, joined, earlier, m, lefts[k], rights[k]);
+        m = forest.join(m, lefts[k], rights[k]);
     }
     m
 }
 
 // The ends of one of the records from `from` up to `to` have two roots.
-fn parted(
-    lefts: &[u32],
-    rights: &[u32],
-    from: usize,
-    to: usize,
-    parents: &[u32],
-    heights: &[u32],
-) -> bool
-    requires { (from ≤ to) × Graph to (length parents.now) lefts.now rights.now × HeightTrees parents.now heights.now }
-    ensures { (es : List Edge) → RootedForest es parents.now →
+fn parted(lefts: &[u32], rights: &[u32], from: usize, to: usize, forest: &Forest) -> bool
+    requires { (from ≤ to) × Graph to (length forest.now.parents.now) lefts.now rights.now × HeightTrees forest.now.parents.now forest.now.heights.now }
+    ensures { (es : List Edge) → RootedForest es forest.now.parents.now →
         result ≡ some_parted es lefts.now rights.now from (to - from) }
 {
     for k in from..to {
-        let left = find(parents, heights, lefts[k]);
-        let right = find(parents, heights, rights[k]);
+        let left = forest.find(lefts[k]);
+        let right = forest.find(rights[k]);
         if left != right {
             return true;
         }
@@ -64,16 +52,16 @@ fn mark_one(
     rights: &[u32],
     from: usize,
     to: usize,
-    parents: &[u32],
-    heights: &[u32],
+    forest: &Forest,
     b: usize,
     marks: &mut [u8; 256],
 )
-    requires { (from ≤ to) × Graph to (length parents.now) lefts.now rights.now × HeightTrees parents.now heights.now × (b < 256) }
-    ensures { (es : List Edge) → RootedForest es parents.now →
+    requires { (from ≤ to) × Graph to (length forest.now.parents.now) lefts.now rights.now
+        × HeightTrees forest.now.parents.now forest.now.heights.now × (b < 256) }
+    ensures { (es : List Edge) → RootedForest es forest.now.parents.now →
         marks.new ≡ set marks.old b (bit (some_parted es lefts.now rights.now from (to - from))) }
 {
-    marks[b] = u8::from(parted(lefts, rights, from, to, parents, heights));
+    marks[b] = u8::from(parted(lefts, rights, from, to, forest));
 }
 
 // The first record from `from` on whose owner is not below b, or `to`.
@@ -94,18 +82,12 @@ pub fn close_range(
     to: usize,
     lo: usize,
     hi: usize,
-    parents: &mut [u32],
-    heights: &mut [u32],
-    joined: &mut [u32],
-    earlier: &mut [u32],
+    forest: &mut Forest,
     n: usize,
     marks: &mut [u8; 256],
 )
-    requires { OpenRange owners.now lefts.now rights.now count from to lo hi
-        (forest_tables parents.old heights.old joined.old earlier.old) n marks.old }
-    ensures { ClosedRange owners.now lefts.now rights.now count lo hi
-        (forest_tables parents.old heights.old joined.old earlier.old)
-        (forest_tables parents.new heights.new joined.new earlier.new) n marks.old marks.new }
+    requires { OpenRange owners.now lefts.now rights.now count from to lo hi (tables forest.old) n marks.old }
+    ensures { ClosedRange owners.now lefts.now rights.now count lo hi (tables forest.old) (tables forest.new) n marks.old marks.new }
 {
     if from == to {
         return;
@@ -117,16 +99,15 @@ pub fn close_range(
         let mid = b + (hi - b) / 2;
         let cut = first_from(owners, a, to, mid);
         // The first half is closed with the second joined, and is then joined itself.
-        let k = join_records(lefts, rights, cut, to, parents, heights, joined, earlier, m);
+        let k = join_records(lefts, rights, cut, to, forest, m);
         close_range(
-            owners, lefts, rights, count, a, cut, b, mid, parents, heights, joined, earlier, k,
-            marks,
+            owners, lefts, rights, count, a, cut, b, mid, forest, k, marks,
         );
-        undo(parents, heights, joined, earlier, m, k);
-        m = join_records(lefts, rights, a, cut, parents, heights, joined, earlier, m);
+        forest.undo(m, k);
+        m = join_records(lefts, rights, a, cut, forest, m);
         a = cut;
         b = mid;
     }
-    mark_one(lefts, rights, a, to, parents, heights, b, marks);
-    undo(parents, heights, joined, earlier, n, m);
+    mark_one(lefts, rights, a, to, forest, b, marks);
+    forest.undo(n, m);
 }

@@ -57,7 +57,8 @@ loop-i-preserved c =
       inv.0,
       inv.1,
       omega (arith, turns),
-      recording-next _ _ _ _ r h m (omega (arith, inv.0.few, turns)) (run-filled _ _ _ _ _ rises room filled) (run-long _ _ _ _ _ rises room filled) kept.lefts kept.rights,
+      recording-next _ _ _ _ r h m (omega (arith, inv.0.few, turns)) (run-filled _ _ _ _ _ rises room filled)
+          (run-long _ _ _ _ _ rises room filled) kept.lefts kept.rights,
     )
 
 pub returns : goal.returns

@@ -8,6 +8,9 @@ use Rattle.areas_assessments.proofs.Placing.{limit-small, last-along, along-is, 
 use Rattle.areas_assessments.proofs.Strips.{strip-assessed}
 use Rattle.areas_assessments.proofs.strip.assess_span.Goals as goal
 
+pub invariant_of-map : goal.invariant_of-map
+invariant_of-map c = record { on_map = c.requires.0 }
+
 pub strip_axis-range-requires : goal.strip_axis-range-requires
 strip_axis-range-requires c =
     (c.requires.0.sides, c.requires.0.span)
@@ -21,7 +24,6 @@ assess_beside-done-requires c =
     let span = c.args.span in
     let p = c.requires in
     let b = limit-small c.requires.0.sides span (last-along c.requires.0.sides span c.strip_axis-range.ensures) in (
-      p.0,
       omega (arith, last-along c.requires.0.sides span c.strip_axis-range.ensures),
       going-room _ _ c.loop-c.invariant.1 4194304 4096 (room-start p.1 p.2 p.3) (omega (arith, c.loop-c-test.true)),
     )

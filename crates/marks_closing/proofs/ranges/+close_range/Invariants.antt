@@ -1,5 +1,5 @@
 use Rattle.std.proofs.Common.{◌-◌}
-use Rattle.marks_closing.specs.Log.{forest_tables}
+use Rattle.marks_closing.specs.Tables.{tables}
 use Rattle.marks_closing.proofs.Turns.{Turning}
 use Rattle.marks_closing.proofs.ranges.+close_range.Given as goal
 
@@ -10,8 +10,8 @@ decreases-close_range l = l.hi - l.lo
 abbrev pub invariant-loop-b : goal.invariant-loop-b
 invariant-loop-b l =
     Turning l.owners l.lefts l.rights l.count l.from l.to l.lo l.hi
-    (forest_tables l.initial.parents l.initial.heights l.initial.joined l.initial.earlier) l.n l.initial.marks
-    l.a l.b (forest_tables l.parents l.heights l.joined l.earlier) l.m l.marks
+    (tables l.initial.forest) l.n l.initial.marks
+    l.a l.b (tables l.forest) l.m l.marks
 
 abbrev pub decreases-loop-b : goal.decreases-loop-b
 decreases-loop-b l = l.hi - l.b

@@ -34,20 +34,6 @@ loop-k-preserved c =
       adding-next a.lefts.now a.rights.now a.from inv.0 inv.2 c.join-m.ensures,
     )
 
-pub shape_of-parents : goal.shape_of-parents
-shape_of-parents c = c.loop-k.invariant.2.size
-
-pub shape_of-heights : goal.shape_of-heights
-shape_of-heights c =
-    let grown = c.loop-k.invariant.2 in
-    omega (arith, grown.size, grown.trees.sized, c.requires.2.trees.sized)
-
-pub shape_of-joined : goal.shape_of-joined
-shape_of-joined c = c.loop-k.invariant.2.log.joined-size
-
-pub shape_of-earlier : goal.shape_of-earlier
-shape_of-earlier c = c.loop-k.invariant.2.log.earlier-size
-
 pub returns : goal.returns
 returns c =
     let a = c.args in

@@ -10,4 +10,4 @@ use Rattle.marks_closing.proofs.ranges.parted.Given as goal
 -- no record before k is parted
 abbrev pub invariant-loop-k : goal.invariant-loop-k
 invariant-loop-k l =
-    (l.from ≤ l.k) × (l.k ≤ l.to) × ((es : List Edge) → RootedForest es l.parents → some_parted es l.lefts l.rights l.from (l.k - l.from) ≡ false)
+    (l.from ≤ l.k) × (l.k ≤ l.to) × ((es : List Edge) → RootedForest es l.forest.parents.now → some_parted es l.lefts l.rights l.from (l.k - l.from) ≡ false)

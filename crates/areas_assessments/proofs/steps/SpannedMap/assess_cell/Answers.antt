@@ -3,15 +3,15 @@ use Prim.Native.Nat.{◌-◌}
 use native.Mathlib.Omega.{arith}
 use Rattle.areas_assessments.specs.Visits.{cut_from}
 use Rattle.areas_assessments.proofs.Advancing.{going_start, going-room, going_next, going_end, grown-more}
-use Rattle.areas_assessments.proofs.steps.assess_cell.Goals as goal
+use Rattle.areas_assessments.proofs.steps.SpannedMap.assess_cell.Goals as goal
 
 pub loop-d-init : goal.loop-d-init
 loop-d-init c =
-    (omega arith, going_start _ _ _ 4 c.requires.3)
+    (omega arith, going_start _ _ _ 4 c.requires.2)
 
 pub assess_step-done-requires : goal.assess_step-done-requires
 assess_step-done-requires c =
-    let p = c.requires in (p.0, p.1, p.2, omega arith, going-room _ _ c.loop-d.invariant.1 4 1 p.3 (omega arith))
+    let p = c.requires in (p.0, p.1, omega arith, going-room _ _ c.loop-d.invariant.1 4 1 p.2 (omega arith))
 
 pub loop-d-preserved : goal.loop-d-preserved
 loop-d-preserved c =

@@ -5,10 +5,12 @@ use Rattle.areas.specs.Strip.{cell_of}
 use Rattle.areas_assessments.specs.Visits.{cut_from}
 use Rattle.areas_assessments.proofs.Advancing.{Going}
 use Rattle.areas.specs.Words.{labels_in}
-use Rattle.areas_assessments.proofs.strip.assess_beside.Given as goal
+use Rattle.areas_assessments.proofs.steps.SpannedMap.assess_beside.Given as goal
 
 abbrev pub invariant-loop-cm : goal.invariant-loop-cm
 invariant-loop-cm l =
-    (l.cm ≤ max l.initial.cm l.cm-end) × Going (labels_in l.labels (l.width * l.height))
-    (λ k. cut_from (directions_of l.directions) (map_of l.width l.height l.cells) l.span (cell_of (map_of l.width l.height l.cells) l.span l.c k)) l.initial.cm l.start l.initial.lefts l.initial.rights l.initial.done
+    (l.cm ≤ max l.initial.cm l.cm-end) × Going (labels_in l.self.labels.now (l.self.width * l.self.height))
+    (λ k. cut_from (directions_of l.self.directions) (map_of l.self.width l.self.height l.self.cells.now) l.self.span
+    (cell_of (map_of l.self.width l.self.height l.self.cells.now) l.self.span l.c k)) l.initial.cm
+    l.start l.initial.lefts l.initial.rights l.initial.done
     l.lefts l.rights l.done l.cm (4 * (l.cm - l.initial.cm))

@@ -1,5 +1,5 @@
 use native.Mathlib.Omega.{arith}
-use Rattle.marks_closing.proofs.forest.hang.Goals as goal
+use Rattle.marks_closing.proofs.forest.Forest.hang.Goals as goal
 
 pub raised_over-requires : goal.raised_over-requires
 raised_over-requires c =

@@ -1,6 +1,6 @@
 use Prim.Native.Nat.{◌-◌}
 use Rattle.marks_closing.proofs.Finds.{finding-start, finding-inside, finding-less, finding-next, finding-end}
-use Rattle.marks_closing.proofs.forest.find.Goals as goal
+use Rattle.marks_closing.proofs.forest.Forest.find.Goals as goal
 
 pub loop-up-init : goal.loop-up-init
 loop-up-init c =
