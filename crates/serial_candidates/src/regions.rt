@@ -23,7 +23,7 @@ fn considered(after: u32, best: u32, mark: u8, lower: u32, higher: u32) -> u32
     best
 }
 
-// The least region above `after` in the pairs of the marked ranks, 0 if there is none.
+// The least region above `after` in the pairs of the marked ranks, 0 if there is none. A number, not an Option: specs/Next.antt's next_after says 0.
 pub fn next_region(
     n: usize,
     linkables: &[u8; 256],

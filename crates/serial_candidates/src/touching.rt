@@ -4,7 +4,7 @@ ghost use Rattle.graph.specs.Records.{record_in};
 ghost use Rattle.serial_candidates.specs.Owners.{Stored};
 ghost use Rattle.serial_candidates.specs.Touchers.{with_owner, touched, touching_after};
 
-// How many owners touch a region, the first two, and the last.
+// How many owners touch a region, the first two, and the last. Numbers, not Options: specs/Touchers.antt has 0 where there is none.
 #[derive(Clone, Copy)]
 pub struct Touching {
     pub count: u32,

@@ -51,7 +51,8 @@ pub fn fill_spans(
     }
 }
 
-// The widths of boundaries by rank, and 0 behind them.
+// The widths of boundaries by rank, and 0 behind them. Not one function with fill_spans and fill_ramps over a closure: the loops are two lines each, and the
+// closure's clauses on its place would be longer.
 pub fn fill_widths(s: &[u8], at: usize, order: &[u32; 256], n: usize, bits: &mut [u64; 256])
     requires { Records s.now at boundary_size order.now n × (length bits.old ≡ 256) }
     ensures { WidthsOf s.now at order.now n bits.new }

@@ -4,8 +4,6 @@ ghost use Rattle.lists.specs.Rows.{at};
 ghost use Rattle.graph.specs.Slices.{Graph};
 ghost use Rattle.serial_walk.specs.Slices.{IncidenceLists};
 
-use wire::size;
-
 // Puts record k before the chains of its two regions.
 fn link_record(
     lefts: &[u32],
@@ -21,9 +19,9 @@ fn link_record(
     ensures rights { right_nexts.new ≡ set right_nexts.old k (at heads.old (at rights.now k)) }
     ensures heads { heads.new ≡ set (set heads.old (at lefts.now k) k) (at rights.now k) k }
 {
-    let at = size(k);
-    let left = size(lefts[at]);
-    let right = size(rights[at]);
+    let at = k as usize;
+    let left = lefts[at] as usize;
+    let right = rights[at] as usize;
     left_nexts[at] = heads[left];
     right_nexts[at] = heads[right];
     heads[left] = k;
@@ -45,9 +43,7 @@ pub fn full_graph(
         left_nexts.new
         right_nexts.new 0 }
 {
-    let mut k = count;
-    while 0 < k {
-        k -= 1;
+    for k in (0..count).rev() {
         link_record(lefts, rights, k, heads, left_nexts, right_nexts);
     }
 }

@@ -4,21 +4,13 @@ ghost use Rattle.lists.specs.Rows.{at};
 ghost use Rattle.serial_walk.specs.Slices.{marking};
 
 use crate::frame::Frame;
-use wire::size;
 
 // When the region was found, 0 if it was not.
 pub fn time_of(disc: &[u32], region: u32) -> u32
     requires { region < length disc.now }
     ensures { result ≡ at disc.now region }
 {
-    disc[size(region)]
-}
-
-// The lesser of two numbers.
-fn least(a: u32, b: u32) -> u32
-    ensures { result ≡ min a b }
-{
-    if a < b { a } else { b }
+    disc[region as usize]
 }
 
 // The frame at a place of the stack.
@@ -51,7 +43,7 @@ pub fn enter(
         × (parents.new ≡ set parents.old h f.parent) × (nexts.new ≡ set nexts.old h f.next)
         × (lows.new ≡ set lows.old h f.low) }
 {
-    let region = size(f.region);
+    let region = f.region as usize;
     disc[region] = f.low;
     stack[h] = f.region;
     parents[h] = f.parent;
@@ -85,10 +77,10 @@ pub fn leave(
         (at owners.now f.parent) }
 {
     let low = f.low;
-    lows[up] = least(lows[up], low);
+    lows[up] = lows[up].min(low);
     if time_of(disc, stack[up]) < low {
-        let parent = size(f.parent);
-        let owner = size(owners[parent]);
+        let parent = f.parent as usize;
+        let owner = owners[parent] as usize;
         marks[owner] = 1;
     }
 }

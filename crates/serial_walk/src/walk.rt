@@ -8,7 +8,6 @@ ghost use Rattle.serial_walk.specs.Slices.{Sized, IncidenceLists, Between};
 
 use crate::frame::{after, opened, other_end};
 use crate::stack::{enter, leave, load, save, time_of};
-use wire::size;
 
 // Walks all that is connected with root, an end of record r that was not found before, and marks the bridges there. Gives the time of the last region found.
 fn walk(
@@ -164,10 +163,8 @@ pub fn walk_all(
     ensures { marks.new ≡ bridge_marks (records_in owners.now lefts.now rights.now count) 256 }
 {
     *marks = [0u8; 256];
-    let end = size(count);
     let mut time = 0;
-    let mut r = 0;
-    while r < end {
+    for r in 0..count as usize {
         time = visit(
             owners,
             lefts,
@@ -185,6 +182,5 @@ pub fn walk_all(
             r,
             time,
         );
-        r += 1;
     }
 }
