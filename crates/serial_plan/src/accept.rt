@@ -2,8 +2,10 @@
 ghost use Rattle.std.specs.Prelude.{◌≡◌, ◌≤◌};
 ghost use Rattle.serial_links.specs.HeldLimits.{limits_of};
 ghost use Rattle.serial_plan.specs.Few.{few_list};
-ghost use Rattle.serial_plan.specs.Told.{serial_in, flat_in};
-ghost use Rattle.serial_plan.specs.Fitting.{RankFits, RanksFit, Links};
+ghost use Rattle.serial_plan.specs.Fitting.{RankFits, RanksFit};
+ghost use Rattle.serial_plan.specs.Rules.{Accepts, AcceptsSmall};
+ghost use Rattle.serial_plan.specs.SmallGroups.{serial-small, flat-small};
+ghost use Rattle.serial_plan.specs.Tables.{TableLinks, flat_by, serial_by};
 
 use crate::alike::all_alike;
 use crate::chain::{chain_sum, rank_distance};
@@ -11,6 +13,50 @@ use crate::few::Few;
 use crate::path::{all_on, group_end_nodes, group_is_simple_path};
 use crate::tables::Tables;
 use serial_links::limits::{Chain, Limits};
+
+// A kind of groups, by the test that a group has to pass.
+pub trait Rules {
+    // By the limits, the tables, and the ranks and links of the group.
+    ghost accepted: { Accepts Self };
+
+    fn accept(&self, limits: Limits, t: &Tables, ranks: Few, links: Few) -> bool
+        requires { (limits.most_spans ≤ 16) × (ranks.count ≤ 256) × (links.count ≤ 256) × RanksFit t.now.own.now ranks
+            × TableLinks t.now links × RankFits t.now.own.now 0 }
+        ensures { result ≡ accepted self.now (limits_of limits) t.now (few_list ranks) (few_list links) };
+
+    // A group that passes is small enough to be looked at whole.
+    ghost small: { AcceptsSmall accepted };
+}
+
+// Serial groups, by the marks of the links that pass.
+#[derive(Clone, Copy)]
+pub struct Serial<'a> {
+    pub passing: &'a [u8; 256],
+}
+
+impl Rules for Serial<'_> {
+    ghost accepted = { λ s. λ limits t. serial_by limits t s.passing.now };
+
+    ghost small = { λ s. serial-small s.passing.now };
+
+    fn accept(&self, limits: Limits, t: &Tables, ranks: Few, links: Few) -> bool {
+        accepts_serial(limits, t, self.passing, ranks, links)
+    }
+}
+
+// Flat groups.
+#[derive(Clone, Copy)]
+pub struct Flat;
+
+impl Rules for Flat {
+    ghost accepted = { λ _. flat_by };
+
+    ghost small = { λ _. flat-small };
+
+    fn accept(&self, limits: Limits, t: &Tables, ranks: Few, links: Few) -> bool {
+        accepts_flat(limits, t, ranks, links)
+    }
+}
 
 // Every link passes, and the group is a simple path that isn't too long.
 pub fn accepts_serial(
@@ -21,9 +67,8 @@ pub fn accepts_serial(
     links: Few,
 ) -> bool
     requires { (limits.most_spans ≤ 16) × (ranks.count ≤ 256) × (links.count ≤ 256) × RanksFit t.now.own.now ranks
-        × Links t.now.own.now t.now.firsts.now t.now.seconds.now links × RankFits t.now.own.now 0 }
-    ensures { result ≡ serial_in (limits_of limits) t.now.own.now t.now.lowers.now t.now.highers.now t.now.regions.now t.now.firsts.now
-        t.now.seconds.now passing.now (few_list ranks) (few_list links) }
+        × TableLinks t.now links × RankFits t.now.own.now 0 }
+    ensures { result ≡ serial_by (limits_of limits) t.now passing.now (few_list ranks) (few_list links) }
 {
     let pass = all_on(passing, links);
     let least = limits.least_spans;
@@ -40,9 +85,8 @@ pub fn accepts_serial(
 
 // The group is a simple path, and every ordered pair of its members is nearby and parallel.
 pub fn accepts_flat(limits: Limits, t: &Tables, ranks: Few, links: Few) -> bool
-    requires { (ranks.count ≤ 256) × (links.count ≤ 256) × RanksFit t.now.own.now ranks × Links t.now.own.now t.now.firsts.now t.now.seconds.now links }
-    ensures { result ≡ flat_in (limits_of limits) t.now.own.now t.now.lowers.now t.now.highers.now t.now.regions.now t.now.firsts.now
-        t.now.seconds.now (few_list ranks) (few_list links) }
+    requires { (ranks.count ≤ 256) × (links.count ≤ 256) × RanksFit t.now.own.now ranks × TableLinks t.now links }
+    ensures { result ≡ flat_by (limits_of limits) t.now (few_list ranks) (few_list links) }
 {
     let path = group_is_simple_path(limits, 2, t, ranks, links);
     if !path {

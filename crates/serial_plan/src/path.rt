@@ -13,7 +13,6 @@ use crate::few::Few;
 use crate::tables::Tables;
 use context::pairs::other_region;
 use serial_links::limits::{GroupSize, Limits};
-use wire::size;
 
 fn joins(first: u32, second: u32, i: u32) -> bool
     ensures { result ≡ eqb i first || eqb i second }
@@ -21,7 +20,8 @@ fn joins(first: u32, second: u32, i: u32) -> bool
     (i == first) | (i == second)
 }
 
-// How many links join a rank, and the first of them.
+// How many links join a rank, and the first of them; 0 where there is none.
+// A struct, not an Option: near and near_link of specs/Few.antt speak of its fields.
 #[derive(Clone, Copy)]
 pub struct Near {
     pub count: u32,
@@ -105,7 +105,7 @@ fn outer(t: &Tables, links: Few, i: u32) -> u32
 {
     let near = links_at(t, links, i);
     let at = i as usize;
-    other_region(t.lowers[at], t.highers[at], t.regions[size(near.first)])
+    other_region(t.lowers[at], t.highers[at], t.regions[near.first as usize])
 }
 
 // A path of at least so many ranks and at most the limit's, whose outer regions differ.

@@ -7,9 +7,10 @@ use Rattle.serial_links.specs.Geometry.{centre_length}
 use Rattle.serial_links.specs.HeldLimits.{limits_of}
 use Rattle.serial_plan.specs.Fitting.{RankFits}
 use Rattle.serial_plan.specs.Few.{few_at, few_list}
+use Rattle.serial_plan.specs.SmallGroups.{path-sizes}
 use Rattle.serial_plan.proofs.ShapeLaws.{listed-length, held_first, held-second}
 use Rattle.serial_plan.proofs.ValueLaws.{both}
-use Rattle.serial_plan.proofs.AcceptLaws.{ends-slots, path-sizes, serial-no, serial-path, serial-yes}
+use Rattle.serial_plan.proofs.AcceptLaws.{ends-slots, serial-no, serial-path, serial-yes}
 use Rattle.serial_plan.proofs.accept.accepts_serial.Goals as goal
 
 pub returns-then-not-pass-path : goal.returns-then-not-pass-path
