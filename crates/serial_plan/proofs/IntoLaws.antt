@@ -1,5 +1,5 @@
 -- A rank goes into what its group retains if a chosen link joins it.
-use mathlib.Core.Path.{◌≡◌}
+use mathlib.Core.Path.{◌≡◌, ◌∙◌}
 use mathlib.Core.Bool.{Bool, cond}
 use mathlib.Core.List.{List}
 use Prim.Native.Nat.{ℕ}
@@ -23,11 +23,12 @@ together : (into : ℕ → ℕ) {j k p q : ℕ} → j ≡ k → p ≡ q → cond
 together into e f = cc
 
 module _ (accepts : List ℕ → List ℕ → Bool) (limits : Limits) (n : ℕ) (own bits firsts : List ℕ) (links : ℕ) (chosen joined parts : List ℕ) where
-  pub together-group : (e i : ℕ) → at joined e ≡ at joined i → at parts e ≡ at parts i
-      → group_into accepts limits n own bits firsts links chosen joined parts e ≡ group_into accepts limits n own bits firsts links chosen joined parts i
+  pub goes-together : (e i : ℕ) {v : ℕ} → at joined e ≡ at joined i → at parts e ≡ at parts i
+      → v ≡ group_into accepts limits n own bits firsts links chosen joined parts e → v ≡ group_into accepts limits n own bits firsts links chosen
+      joined parts i
   unfolding group_into
-  together-group e i p q =
-      together
+  goes-together e i p q h =
+      h ∙ together
       (λ c. cond (accepts (ranks_in n joined parts c) (numbers_in links chosen firsts parts c)) (retained_in limits own bits (ranks_in n joined parts c)) 256)
       p q
 

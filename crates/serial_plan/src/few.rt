@@ -57,3 +57,10 @@ impl Few {
         self.get(j) as usize
     }
 }
+
+// The ranks and the links of a group, by number.
+#[derive(Clone, Copy)]
+pub struct Group {
+    pub ranks: Few,
+    pub links: Few,
+}

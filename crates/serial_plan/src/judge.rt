@@ -5,6 +5,7 @@ ghost use Rattle.serial_plan.specs.Shape.{retained_in};
 ghost use Rattle.serial_plan.specs.Tables.{SafeTables, part_links, part_ranks};
 
 use crate::accept::Rules;
+use crate::few::Group;
 use crate::gather::{links_of, ranks_of};
 use crate::retain::representative;
 use crate::tables::{Groups, Tables};
@@ -18,8 +19,8 @@ pub fn judge<R: Rules>(limits: Limits, rules: &R, t: &Tables, g: &Groups, c: u32
         (retained_in (limits_of limits) t.now.own.now t.now.bits.now (part_ranks t.now g.now c)) 256) × (result ≤ 256) }
 {
     let ranks = ranks_of(t.n, g, c);
-    let found = links_of(t, g, c);
-    if !rules.accept(limits, t, ranks, found) {
+    let links = links_of(t, g, c);
+    if !rules.accept(limits, t, &Group { ranks, links }) {
         return 256;
     }
     representative(limits, t.own, t.bits, ranks)

@@ -1,6 +1,5 @@
-use mathlib.Core.Path.{◌∙◌}
 use Rattle.serial_plan.specs.Into.{group_into}
-use Rattle.serial_plan.proofs.IntoLaws.{no-group, one-group, together-group}
+use Rattle.serial_plan.proofs.IntoLaws.{no-group, one-group, goes-together}
 use native.Mathlib.Omega.{arith}
 use Rattle.serial_plan.proofs.into.one_into.Goals as goal
 
@@ -11,7 +10,7 @@ returns-then-g-i-ne1 g c = no-group _ c.if-g-i-ne1.true
 pub returns-then-e-i : goal.returns-then-e-i
 returns-then-e-i g c =
     let e = c.judged_before-e in
-    c.requires.3.each e.result (omega (arith, c.if-e-i.true)) ∙ together-group _ _ _ _ _ _ _ _ _ _ _ _ e.ensures.1 e.ensures.2
+    goes-together _ _ _ _ _ _ _ _ _ _ e.result _ e.ensures.1 e.ensures.2 (c.requires.3.each e.result (omega (arith, c.if-e-i.true)))
 
 pub returns : goal.returns
 unfolding group_into

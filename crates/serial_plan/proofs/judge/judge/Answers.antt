@@ -14,7 +14,7 @@ accept-requires g c =
     let p = a.g.now in
     let k =
     kept c.requires.1 (in_part p.joined.now p.parts.now a.c) (link_in_part p.chosen.now t.firsts.now p.parts.now a.c)
-    c.ranks_of-ranks.ensures c.links_of-found.ensures
+    c.ranks_of-ranks.ensures c.links_of-links.ensures
     in
     (c.requires.0, k.few-ranks, k.few-links, k.ranks, k.links, k.zero)
 
@@ -26,7 +26,7 @@ returns-then-not-accept g c =
     let w =
     whole (g.met.R.Rules.small a.rules.now (limits_of a.limits) t c.requires.0)
     (ranks_in t.n p.joined.now p.parts.now a.c) (numbers_in t.links p.chosen.now t.firsts.now p.parts.now a.c)
-    c.ranks_of-ranks.ensures c.links_of-found.ensures
+    c.ranks_of-ranks.ensures c.links_of-links.ensures
     in
     (judged-no w c.accept.ensures (retained_in (limits_of a.limits) t.own.now t.bits.now) (ap not c.if-not-accept.true), omega arith)
 
@@ -37,12 +37,12 @@ representative-requires g c =
     let p = a.g.now in
     let k =
     kept c.requires.1 (in_part p.joined.now p.parts.now a.c) (link_in_part p.chosen.now t.firsts.now p.parts.now a.c)
-    c.ranks_of-ranks.ensures c.links_of-found.ensures
+    c.ranks_of-ranks.ensures c.links_of-links.ensures
     in
     let w =
     whole (g.met.R.Rules.small a.rules.now (limits_of a.limits) t c.requires.0)
     (ranks_in t.n p.joined.now p.parts.now a.c) (numbers_in t.links p.chosen.now t.firsts.now p.parts.now a.c)
-    c.ranks_of-ranks.ensures c.links_of-found.ensures
+    c.ranks_of-ranks.ensures c.links_of-links.ensures
     in
     let s = judged-sizes w c.accept.ensures (ap not c.if-not-accept.false) in
     (s.0, s.1, k.ranks, k.widths, k.zero)
@@ -55,7 +55,7 @@ returns g c =
     let w =
     whole (g.met.R.Rules.small a.rules.now (limits_of a.limits) t c.requires.0)
     (ranks_in t.n p.joined.now p.parts.now a.c) (numbers_in t.links p.chosen.now t.firsts.now p.parts.now a.c)
-    c.ranks_of-ranks.ensures c.links_of-found.ensures
+    c.ranks_of-ranks.ensures c.links_of-links.ensures
     in (
       judged-yes w c.accept.ensures (retained_in (limits_of a.limits) t.own.now t.bits.now) (ap not c.if-not-accept.false) c.representative.ensures.0,
       omega (arith, c.representative.ensures.1),
