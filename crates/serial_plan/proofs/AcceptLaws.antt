@@ -65,23 +65,6 @@ module _ (lowers highers regions firsts seconds : List ℕ) (least most : ℕ) w
       out : ℕ → ℕ
       out = outer_in lowers highers regions firsts seconds (few_list g)
 
-  -- how many ranks and links a path has: two ranks at least, for it has two ends
-  pub path-sizes : (rs js : List ℕ) → path_in lowers highers regions firsts seconds least most rs js ≡ true
-      → (2 ≤ length rs) × (length rs ≤ most) × (suc (length js) ≡ length rs)
-  unfolding path_in ends_in
-  path-sizes rs js h =
-      let p = and_parts _ _ h in
-      let q = and_parts _ _ p.0 in
-      let s = and_parts (leb least (length rs)) (leb (length rs) most) q.0 in
-      let u = and_parts _ _ q.1 in
-      let v = and_parts (eqb (suc (length js)) (length rs)) (eqb (length (ends_in firsts seconds rs js)) 2) u.0 in
-      let two = eqb-true (length (ends_in firsts seconds rs js)) 2 v.1 in (
-        omega (arith, two, keep-length (λ i. eqb (degree_in firsts seconds js i) 1) rs),
-        leb-true (length rs) most s.1,
-        eqb-true (suc (length js))
-            (length rs) v.0,
-      )
-
 module _ (limits : Limits) (own lowers highers regions firsts seconds : List ℕ) where
   pub flat-no : (rs js : List ℕ) {b : Bool} → b ≡ path_in lowers highers regions firsts seconds least_flat_spans limits.most_spans rs js → not b ≡ true
       → false ≡ flat_in limits own lowers highers regions firsts seconds rs js

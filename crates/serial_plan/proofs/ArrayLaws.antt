@@ -8,6 +8,7 @@ use native.Mathlib.Omega.{arith}
 use native.Mathlib.Decide.{ℕ_discrete}
 use borrow.Author.Tests.{eq-eqb, ne_eqb}
 use lib.Dec.{eqb}
+use mir.Val.{bool_byte}
 use lib.ListN.{length, get_or, set, length-set, replicate, length-replicate, get_or-replicate}
 use lib.Seq.{get_or-set_same, get_or-set_other}
 use Rattle.lists.specs.Rows.{at}
@@ -16,6 +17,14 @@ use Rattle.graph.specs.Parts.{join, component_of}
 use Rattle.order.specs.Tests.{any}
 use Rattle.serial_plan.specs.Arrays.{is_on, edge_row, chosen_from, part_from, joins_at, joined_from, FirstAre}
 use Rattle.order.proofs.SortedFirst.{up-down}
+
+-- a test as a mark
+pub test-mark : {a b : Bool} {v : ℕ} → v ≡ bool_byte a → a ≡ b → v ≡ cond b 1 0
+test-mark {a} {b} {v} e h = e ∙ (as_mark a ∙ ap (λ (t : Bool). cond t 1 0) h)
+  where
+    as_mark : (t : Bool) → bool_byte t ≡ cond t 1 0
+    as_mark true = refl
+    as_mark false = refl
 
 pub pick_yes : (c high low : ℕ) → c ≡ high → low ≡ cond (eqb c high) low c
 pick_yes c high low e = let h = eq-eqb c high e in rw h

@@ -22,13 +22,10 @@ use Rattle.serial_plan.specs.Few.{few_of, few_list}
 use Rattle.serial_plan.specs.Arrays.{is_on, LinkRanks}
 use Rattle.serial_plan.specs.Shape.{ends_in, chain_in, path_in, all_alike_in}
 use Rattle.serial_plan.specs.Told.{serial_in, flat_in}
+use Rattle.serial_plan.specs.Rules.{Sized}
 use Rattle.serial_plan.specs.Fitting.{RankFits, LinkFits, WidthFits, RanksFit, Links, Widths, Safe}
 use Rattle.serial_plan.proofs.FewLaws.{listed-held}
 use Rattle.serial_plan.proofs.ShapeLaws.{listed-length, held-count, held-slots}
-use Rattle.serial_plan.proofs.AcceptLaws.{path-sizes}
-
-abbrev pub Sized : List ℕ → List ℕ → Type 0
-Sized rs js = (1 ≤ length rs) × (length rs ≤ 16) × (length js ≤ 16)
 
 -- a test says of the ranks and links that are few_of what it says of all: it passes only small groups, and these are few_of whole
 pub record Whole (F : List ℕ → List ℕ → Bool) (rs js : List ℕ) (f g : Few) : Type 0 where
@@ -77,27 +74,6 @@ module _ {F : List ℕ → List ℕ → Bool} {rs js : List ℕ} {f g : Few} (W 
   judged-yes R n q =
       let h : F (few_list f) (few_list g) ≡ true = sym e ∙ not-false b n in
       q ∙ (ap R (W.ranks h) ∙ ap (λ (t : Bool). cond t (R rs) 256) (sym h ∙ W.same))
-
-passed-path : (a b c : Bool) → (a && b) && c ≡ true → b ≡ true
-passed-path a b c h = (and_parts a b (and_parts (a && b) c h).0).1
-
-module _ (limits : Limits) (own lowers highers regions firsts seconds : List ℕ) where
-  pub serial-small : (passing : List ℕ) → limits.most_spans ≤ 16 → (rs js : List ℕ)
-      → serial_in limits own lowers highers regions firsts seconds passing rs js ≡ true → Sized rs js
-  unfolding serial_in
-  serial-small passing m rs js h =
-      let q = passed-path (every (is_on passing) js) (path_in lowers highers regions firsts seconds limits.least_spans limits.most_spans rs js)
-      (le (chain_in firsts seconds own js) limits.chain && le
-      (centre_distance (span_in own (get_or (ends_in firsts seconds rs js) 0 0)) (span_in own (get_or (ends_in firsts seconds rs js) 1 0))) limits.chain) h in
-      let s = path-sizes lowers highers regions firsts seconds limits.least_spans limits.most_spans rs js q in
-      (omega (arith, s.0), omega (arith, s.1), omega (arith, s.1, s.2))
-
-  pub flat-small : limits.most_spans ≤ 16 → (rs js : List ℕ) → flat_in limits own lowers highers regions firsts seconds rs js ≡ true → Sized rs js
-  unfolding flat_in
-  flat-small m rs js h =
-      let p = and_parts (path_in lowers highers regions firsts seconds least_flat_spans limits.most_spans rs js) (all_alike_in limits own rs) h in
-      let s = path-sizes lowers highers regions firsts seconds least_flat_spans limits.most_spans rs js p.0 in
-      (omega (arith, s.0), omega (arith, s.1), omega (arith, s.1, s.2))
 
 few-kept : (t : ℕ → Bool) (n : ℕ) {f : Few} → f ≡ few_of (keep t (up_from 0 n)) → n ≤ 256 → f.count ≤ 256
 few-kept t n e l = omega (arith, held-count (keep t (up_from 0 n)) e, keep-length t (up_from 0 n), up-length 0 n)

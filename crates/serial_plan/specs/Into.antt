@@ -1,11 +1,20 @@
 -- Which rank a rank goes into, by arrays: the one that the group of its part retains, 256 where no accepted group has it.
 use Rattle.std.proofs.Math.Bool.{cond}
-use Rattle.std.specs.Prelude.{List, ℕ, eqb}
+use Rattle.std.specs.Prelude.{Bool, List, ℕ, eqb}
 use Rattle.lists.specs.Rows.{at}
 use Rattle.serial_links.specs.Limits.{Limits}
 use Rattle.serial_plan.specs.Arrays.{is_on, ranks_in, numbers_in}
 use Rattle.serial_plan.specs.Shape.{retained_in}
 use Rattle.serial_plan.specs.Told.{serial_in, flat_in}
+
+-- by the groups that a test of their ranks and links accepts
+module _ (accepts : List ℕ → List ℕ → Bool) (limits : Limits) (n : ℕ) (own bits firsts : List ℕ) (links : ℕ) (chosen joined parts : List ℕ) where
+  unfoldable pub group_into : ℕ → ℕ
+  unfolding retained_in
+  group_into i =
+      cond (is_on joined i)
+      (cond (accepts (ranks_in n joined parts (at parts i)) (numbers_in links chosen firsts parts (at parts i)))
+      (retained_in limits own bits (ranks_in n joined parts (at parts i))) 256) 256
 
 -- into the serial group's rank, otherwise into the flat group's, otherwise into itself
 abbrev pub goes_to : ℕ → ℕ → ℕ → ℕ

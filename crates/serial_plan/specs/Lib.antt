@@ -5,5 +5,8 @@ pub mod Fitting
 pub mod Told
 pub mod Into
 pub mod Planning
+pub mod Tables
+pub mod Rules
+pub mod SmallGroups
 pub mod Listed
 pub mod Planned

@@ -2,6 +2,7 @@
 ghost use Rattle.std.specs.Prelude.{◌≡◌, cond, [], ◌<◌};
 ghost use Rattle.serial_plan.specs.Few.{few_of, pushed, few_at};
 
+// Not an ArrayVec: a number comes in before the others, and past sixteen the last is dropped while the count goes on.
 #[derive(Clone, Copy)]
 pub struct Few {
     pub count: u32,
@@ -55,4 +56,11 @@ impl Few {
     {
         self.get(j) as usize
     }
+}
+
+// The ranks and the links of a group, by number.
+#[derive(Clone, Copy)]
+pub struct Group {
+    pub ranks: Few,
+    pub links: Few,
 }

@@ -3,27 +3,20 @@ ghost use Rattle.std.specs.Prelude.{◌≡◌, ◌<◌, ◌≤◌, length};
 ghost use Rattle.lists.specs.Rows.{at};
 ghost use Rattle.serial_links.specs.HeldLimits.{limits_of};
 ghost use Rattle.serial_plan.specs.Arrays.{FirstAre};
-ghost use Rattle.serial_plan.specs.Into.{serial_into, flat_into, goes_to};
-ghost use Rattle.serial_plan.specs.Fitting.{Safe};
+ghost use Rattle.serial_plan.specs.Into.{goes_to};
+ghost use Rattle.serial_plan.specs.Tables.{SafeTables, into_by};
 
-use crate::judge::{judge_flat, judge_serial};
+use crate::accept::Rules;
+use crate::judge::judge;
 use crate::tables::{Groups, Tables};
 use serial_links::limits::Limits;
-use wire::size;
-
-fn short(x: usize) -> u32
-    requires { x ≤ 256 }
-    ensures { result ≡ x }
-{
-    x as u32
-}
 
 // The first rank of rank i's part, if it is earlier and goes where i goes; else i.
 fn judged_before(g: &Groups, i: usize) -> usize
     requires { i < 256 }
     ensures { (result ≤ i) × (at g.now.joined.now result ≡ at g.now.joined.now i) × (at g.now.parts.now result ≡ at g.now.parts.now i) }
 {
-    let c = size(g.parts[i]);
+    let c = g.parts[i] as usize;
     if c < i {
         if g.joined[c] == g.joined[i] {
             if g.parts[c] == g.parts[i] {
@@ -34,22 +27,18 @@ fn judged_before(g: &Groups, i: usize) -> usize
     i
 }
 
-// The rank that rank i goes into by the serial group of its part; each part is judged at its first rank.
-fn one_serial(
+// The rank that rank i goes into by the group of its part; each part is judged at its first rank.
+fn one_into<R: Rules>(
     limits: Limits,
+    rules: &R,
     t: &Tables,
-    passing: &[u8; 256],
     g: &Groups,
     into: &[u32; 256],
     i: usize,
 ) -> u32
-    requires { (limits.most_spans ≤ 16) × Safe t.now.n t.now.own.now t.now.bits.now t.now.firsts.now t.now.seconds.now t.now.links × (i < 256)
-        × FirstAre (serial_into (limits_of limits) t.now.n t.now.own.now t.now.bits.now t.now.lowers.now t.now.highers.now t.now.regions.now
-        t.now.firsts.now t.now.seconds.now t.now.links
-        passing.now g.now.chosen.now g.now.joined.now g.now.parts.now) i into.now }
-    ensures { result ≡ serial_into (limits_of limits) t.now.n t.now.own.now t.now.bits.now t.now.lowers.now t.now.highers.now
-        t.now.regions.now t.now.firsts.now t.now.seconds.now t.now.links passing.now g.now.chosen.now g.now.joined.now
-        g.now.parts.now i }
+    requires { (limits.most_spans ≤ 16) × SafeTables t.now × (i < 256)
+        × FirstAre (into_by (R.accepted rules.now (limits_of limits) t.now) (limits_of limits) t.now g.now) i into.now }
+    ensures { result ≡ into_by (R.accepted rules.now (limits_of limits) t.now) (limits_of limits) t.now g.now i }
 {
     if g.joined[i] != 1 {
         return 256;
@@ -59,56 +48,22 @@ fn one_serial(
         return into[e];
     }
     let c = g.parts[i];
-    short(judge_serial(limits, t, passing, g, c))
+    judge(limits, rules, t, g, c) as u32
 }
 
 // The same of each rank.
-pub fn into_serial(
+pub fn into_groups<R: Rules>(
     limits: Limits,
+    rules: &R,
     t: &Tables,
-    passing: &[u8; 256],
     g: &Groups,
     into: &mut [u32; 256],
 )
-    requires { (limits.most_spans ≤ 16) × Safe t.now.n t.now.own.now t.now.bits.now t.now.firsts.now t.now.seconds.now t.now.links × (length into.old ≡ 256) }
-    ensures { FirstAre (serial_into (limits_of limits) t.now.n t.now.own.now t.now.bits.now t.now.lowers.now t.now.highers.now
-        t.now.regions.now t.now.firsts.now t.now.seconds.now t.now.links passing.now g.now.chosen.now g.now.joined.now
-        g.now.parts.now) t.now.n into.new }
+    requires { (limits.most_spans ≤ 16) × SafeTables t.now × (length into.old ≡ 256) }
+    ensures { FirstAre (into_by (R.accepted rules.now (limits_of limits) t.now) (limits_of limits) t.now g.now) t.now.n into.new }
 {
     for i in 0..t.n {
-        into[i] = one_serial(limits, t, passing, g, into, i);
-    }
-}
-
-// The rank that rank i goes into by the flat group of its part; each part is judged at its first rank.
-fn one_flat(limits: Limits, t: &Tables, g: &Groups, into: &[u32; 256], i: usize) -> u32
-    requires { (limits.most_spans ≤ 16) × Safe t.now.n t.now.own.now t.now.bits.now t.now.firsts.now t.now.seconds.now t.now.links × (i < 256)
-        × FirstAre (flat_into (limits_of limits) t.now.n t.now.own.now t.now.bits.now t.now.lowers.now t.now.highers.now t.now.regions.now
-        t.now.firsts.now t.now.seconds.now t.now.links g.now.chosen.now
-        g.now.joined.now g.now.parts.now) i into.now }
-    ensures { result ≡ flat_into (limits_of limits) t.now.n t.now.own.now t.now.bits.now t.now.lowers.now t.now.highers.now t.now.regions.now
-        t.now.firsts.now t.now.seconds.now t.now.links g.now.chosen.now g.now.joined.now g.now.parts.now i }
-{
-    if g.joined[i] != 1 {
-        return 256;
-    }
-    let e = judged_before(g, i);
-    if e < i {
-        return into[e];
-    }
-    let c = g.parts[i];
-    short(judge_flat(limits, t, g, c))
-}
-
-// The same of each rank.
-pub fn into_flat(limits: Limits, t: &Tables, g: &Groups, into: &mut [u32; 256])
-    requires { (limits.most_spans ≤ 16) × Safe t.now.n t.now.own.now t.now.bits.now t.now.firsts.now t.now.seconds.now t.now.links × (length into.old ≡ 256) }
-    ensures { FirstAre (flat_into (limits_of limits) t.now.n t.now.own.now t.now.bits.now t.now.lowers.now t.now.highers.now
-        t.now.regions.now t.now.firsts.now t.now.seconds.now t.now.links g.now.chosen.now g.now.joined.now g.now.parts.now) t.now.n
-        into.new }
-{
-    for i in 0..t.n {
-        into[i] = one_flat(limits, t, g, into, i);
+        into[i] = one_into(limits, rules, t, g, into, i);
     }
 }
 

@@ -1,11 +1,11 @@
 // The merge plan: which rank each rank goes into, by the serial groups and the flat groups of what they leave.
 ghost use Rattle.std.specs.Prelude.{◌≡◌, ◌≤◌, length};
 ghost use Rattle.serial_links.specs.HeldLimits.{limits_of};
-ghost use Rattle.serial_plan.specs.Arrays.{LinkRanks};
-ghost use Rattle.serial_plan.specs.Fitting.{RankedLinks, Safe};
-ghost use Rattle.serial_plan.specs.Planning.{LinkComponents, SerialPlan, FlatPlan, PlanOf};
+ghost use Rattle.serial_plan.specs.Planning.{LinkComponents};
+ghost use Rattle.serial_plan.specs.Tables.{FlatPlanBy, LinkedTables, PlanBy, RankedTables, SafeTables, SerialPlanBy};
 
-use crate::into::{combine, into_flat, into_serial};
+use crate::accept::{Flat, Serial};
+use crate::into::{combine, into_groups};
 use crate::parts::{connected_link_groups, mark_joined, start};
 use crate::select::{select_flat, select_serial};
 use crate::tables::{Groups, Tables};
@@ -13,7 +13,7 @@ use serial_links::limits::Limits;
 
 // The parts of the chosen links, and the ranks that they join.
 fn join_chosen(chosen: &[u8; 256], t: &Tables, parts: &mut [u32; 256], joined: &mut [u8; 256])
-    requires { LinkRanks 256 t.now.firsts.now t.now.seconds.now t.now.links × (length parts.old ≡ 256) × (length joined.old ≡ 256) }
+    requires { LinkedTables t.now × (length parts.old ≡ 256) × (length joined.old ≡ 256) }
     ensures { LinkComponents chosen.now t.now.firsts.now t.now.seconds.now t.now.links parts.new joined.new }
 {
     connected_link_groups(chosen, t, parts);
@@ -28,9 +28,8 @@ fn serial_plan(
     passing: &[u8; 256],
     into: &mut [u32; 256],
 )
-    requires { (limits.most_spans ≤ 16) × Safe t.now.n t.now.own.now t.now.bits.now t.now.firsts.now t.now.seconds.now t.now.links × (length into.old ≡ 256) }
-    ensures { SerialPlan (limits_of limits) t.now.n t.now.own.now t.now.bits.now t.now.lowers.now t.now.highers.now t.now.regions.now
-        t.now.firsts.now t.now.seconds.now t.now.links marks.now passing.now into.new }
+    requires { (limits.most_spans ≤ 16) × SafeTables t.now × (length into.old ≡ 256) }
+    ensures { SerialPlanBy (limits_of limits) t.now marks.now passing.now into.new }
 {
     let mut chosen = [0u8; 256];
     let mut parts = [0u32; 256];
@@ -42,7 +41,7 @@ fn serial_plan(
         joined: &joined,
         parts: &parts,
     };
-    into_serial(limits, t, passing, &g, into);
+    into_groups(limits, &Serial { passing }, t, &g, into);
 }
 
 // The same by the flat groups of the ranks that no serial group has.
@@ -53,9 +52,8 @@ fn flat_plan(
     serial: &[u32; 256],
     into: &mut [u32; 256],
 )
-    requires { (limits.most_spans ≤ 16) × Safe t.now.n t.now.own.now t.now.bits.now t.now.firsts.now t.now.seconds.now t.now.links × (length into.old ≡ 256) }
-    ensures { FlatPlan (limits_of limits) t.now.n t.now.own.now t.now.bits.now t.now.lowers.now t.now.highers.now t.now.regions.now
-        t.now.firsts.now t.now.seconds.now t.now.links flat.now serial.now into.new }
+    requires { (limits.most_spans ≤ 16) × SafeTables t.now × (length into.old ≡ 256) }
+    ensures { FlatPlanBy (limits_of limits) t.now flat.now serial.now into.new }
 {
     let mut chosen = [0u8; 256];
     let mut parts = [0u32; 256];
@@ -67,7 +65,7 @@ fn flat_plan(
         joined: &joined,
         parts: &parts,
     };
-    into_flat(limits, t, &g, into);
+    into_groups(limits, &Flat, t, &g, into);
 }
 
 // The rank that each rank goes into, where there are links.
@@ -79,9 +77,8 @@ fn linked_plan(
     flat: &[u8; 256],
     into: &mut [u32; 256],
 )
-    requires { (limits.most_spans ≤ 16) × Safe t.now.n t.now.own.now t.now.bits.now t.now.firsts.now t.now.seconds.now t.now.links × (length into.old ≡ 256) }
-    ensures { PlanOf (limits_of limits) t.now.n t.now.own.now t.now.bits.now t.now.lowers.now t.now.highers.now t.now.regions.now
-        t.now.firsts.now t.now.seconds.now t.now.links marks.now passing.now flat.now into.new }
+    requires { (limits.most_spans ≤ 16) × SafeTables t.now × (length into.old ≡ 256) }
+    ensures { PlanBy (limits_of limits) t.now marks.now passing.now flat.now into.new }
 {
     let mut serial = [0u32; 256];
     let mut other = [0u32; 256];
@@ -99,10 +96,8 @@ pub fn merge_plan(
     flat: &[u8; 256],
     into: &mut [u32; 256],
 )
-    requires { (limits.most_spans ≤ 16) × RankedLinks t.now.n t.now.own.now t.now.bits.now t.now.firsts.now t.now.seconds.now t.now.links × (length
-        into.old ≡ 256) }
-    ensures { PlanOf (limits_of limits) t.now.n t.now.own.now t.now.bits.now t.now.lowers.now t.now.highers.now t.now.regions.now
-        t.now.firsts.now t.now.seconds.now t.now.links marks.now passing.now flat.now into.new }
+    requires { (limits.most_spans ≤ 16) × RankedTables t.now × (length into.old ≡ 256) }
+    ensures { PlanBy (limits_of limits) t.now marks.now passing.now flat.now into.new }
 {
     if t.n == 0 {
         start(into);

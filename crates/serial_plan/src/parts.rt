@@ -2,22 +2,10 @@
 ghost use Rattle.std.specs.Prelude.{◌≡◌, cond, ◌||◌, ◌&&◌, ◌<◌, min, max, eqb, length};
 ghost use Rattle.lists.specs.Rows.{at};
 ghost use Rattle.graph.specs.Parts.{join};
-ghost use Rattle.serial_plan.specs.Arrays.{part_from, joined_from, LinkRanks, FirstAre};
+ghost use Rattle.serial_plan.specs.Arrays.{part_from, joined_from, FirstAre};
+ghost use Rattle.serial_plan.specs.Tables.{LinkedTables};
 
 use crate::tables::Tables;
-use wire::size;
-
-fn smaller(a: u32, b: u32) -> u32
-    ensures { result ≡ min a b }
-{
-    if a < b { a } else { b }
-}
-
-fn larger(a: u32, b: u32) -> u32
-    ensures { result ≡ max a b }
-{
-    if a < b { b } else { a }
-}
 
 fn moved(c: u32, high: u32, low: u32) -> u32
     ensures { result ≡ cond (eqb c high) low c }
@@ -40,8 +28,8 @@ fn join_parts(parts: &mut [u32; 256], a: u32, b: u32)
     requires { length parts.old ≡ 256 }
     ensures { FirstAre (λ i. join a b (at parts.old i)) 256 parts.new }
 {
-    let low = smaller(a, b);
-    let high = larger(a, b);
+    let low = a.min(b);
+    let high = a.max(b);
     for i in 0..256 {
         parts[i] = moved(parts[i], high, low);
     }
@@ -56,14 +44,14 @@ fn join_link(parts: &mut [u32; 256], on: u8, first: u32, second: u32)
     if on != 1 {
         return;
     }
-    let a = parts[size(first)];
-    let b = parts[size(second)];
+    let a = parts[first as usize];
+    let b = parts[second as usize];
     join_parts(parts, a, b);
 }
 
 // The part of each rank, from the last chosen link to the first.
 pub fn connected_link_groups(chosen: &[u8; 256], t: &Tables, parts: &mut [u32; 256])
-    requires { (length parts.old ≡ 256) × LinkRanks 256 t.now.firsts.now t.now.seconds.now t.now.links }
+    requires { (length parts.old ≡ 256) × LinkedTables t.now }
     ensures { FirstAre (part_from chosen.now t.now.firsts.now t.now.seconds.now 0 t.now.links) 256 parts.new }
 {
     start(parts);
@@ -80,13 +68,13 @@ fn mark_link(joined: &mut [u8; 256], on: u8, first: u32, second: u32)
     if on != 1 {
         return;
     }
-    joined[size(first)] = 1;
-    joined[size(second)] = 1;
+    joined[first as usize] = 1;
+    joined[second as usize] = 1;
 }
 
 // 1 for each rank that one of the chosen links joins, 0 for every other.
 pub fn mark_joined(chosen: &[u8; 256], t: &Tables, joined: &mut [u8; 256])
-    requires { LinkRanks 256 t.now.firsts.now t.now.seconds.now t.now.links }
+    requires { LinkedTables t.now }
     ensures { FirstAre (λ i. cond (joined_from chosen.now t.now.firsts.now t.now.seconds.now 0 t.now.links i) 1 0) 256
         joined.new }
 {

@@ -9,11 +9,10 @@ ghost use Rattle.serial_plan.specs.Arrays.{is_on, joins_at};
 ghost use Rattle.serial_plan.specs.Shape.{ends_in, regular_in, outer_in, path_in};
 ghost use Rattle.serial_plan.specs.Fitting.{Slots};
 
-use crate::few::Few;
+use crate::few::{Few, Group};
 use crate::tables::Tables;
 use context::pairs::other_region;
 use serial_links::limits::{GroupSize, Limits};
-use wire::size;
 
 fn joins(first: u32, second: u32, i: u32) -> bool
     ensures { result ≡ eqb i first || eqb i second }
@@ -21,7 +20,8 @@ fn joins(first: u32, second: u32, i: u32) -> bool
     (i == first) | (i == second)
 }
 
-// How many links join a rank, and the first of them.
+// How many links join a rank, and the first of them; 0 where there is none.
+// A struct, not an Option: near and near_link of specs/Few.antt speak of its fields.
 #[derive(Clone, Copy)]
 pub struct Near {
     pub count: u32,
@@ -58,27 +58,27 @@ fn links_at(t: &Tables, links: Few, i: u32) -> Near
 }
 
 // The ranks that one link joins.
-pub fn group_end_nodes(t: &Tables, ranks: Few, links: Few) -> Few
-    requires { (ranks.count ≤ 256) × (links.count ≤ 256) × Slots 256 links }
-    ensures { result ≡ few_of (ends_in t.now.firsts.now t.now.seconds.now (few_list ranks) (few_list links)) }
+pub fn group_end_nodes(t: &Tables, group: &Group) -> Few
+    requires { (group.now.ranks.count ≤ 256) × (group.now.links.count ≤ 256) × Slots 256 group.now.links }
+    ensures { result ≡ few_of (ends_in t.now.firsts.now t.now.seconds.now (few_list group.now.ranks) (few_list group.now.links)) }
 {
     let mut found = Few::none();
-    for j in (0..ranks.count).rev() {
-        let i = ranks.get(j);
-        let near = links_at(t, links, i);
+    for j in (0..group.ranks.count).rev() {
+        let i = group.ranks.get(j);
+        let near = links_at(t, group.links, i);
         found = found.with(i, near.count == 1);
     }
     found
 }
 
 // One link or two join each rank.
-fn regular(t: &Tables, ranks: Few, links: Few) -> bool
-    requires { (links.count ≤ 256) × Slots 256 links }
-    ensures { result ≡ regular_in t.now.firsts.now t.now.seconds.now (few_list ranks) (few_list links) }
+fn regular(t: &Tables, group: &Group) -> bool
+    requires { (group.now.links.count ≤ 256) × Slots 256 group.now.links }
+    ensures { result ≡ regular_in t.now.firsts.now t.now.seconds.now (few_list group.now.ranks) (few_list group.now.links) }
 {
     let mut all = true;
-    for j in (0..ranks.count).rev() {
-        let near = links_at(t, links, ranks.get(j));
+    for j in (0..group.ranks.count).rev() {
+        let near = links_at(t, group.links, group.ranks.get(j));
         all = ((1 <= near.count) & (near.count <= 2)) & all;
     }
     all
@@ -105,20 +105,22 @@ fn outer(t: &Tables, links: Few, i: u32) -> u32
 {
     let near = links_at(t, links, i);
     let at = i as usize;
-    other_region(t.lowers[at], t.highers[at], t.regions[size(near.first)])
+    other_region(t.lowers[at], t.highers[at], t.regions[near.first as usize])
 }
 
 // A path of at least so many ranks and at most the limit's, whose outer regions differ.
-pub fn group_is_simple_path(limits: Limits, least: u32, t: &Tables, ranks: Few, links: Few) -> bool
-    requires { (ranks.count ≤ 256) × (links.count ≤ 256) × Slots 256 ranks × Slots 256 links }
+pub fn group_is_simple_path(limits: Limits, least: u32, t: &Tables, group: &Group) -> bool
+    requires { (group.now.ranks.count ≤ 256) × (group.now.links.count ≤ 256) × Slots 256 group.now.ranks × Slots 256 group.now.links }
     ensures { result ≡ path_in t.now.lowers.now t.now.highers.now t.now.regions.now t.now.firsts.now t.now.seconds.now least
-        (limits_of limits).most_spans (few_list ranks) (few_list links) }
+        (limits_of limits).most_spans (few_list group.now.ranks) (few_list group.now.links) }
 {
-    let size = GroupSize { spans: ranks.count };
-    let two = group_end_nodes(t, ranks, links);
-    let one = outer(t, links, two.get(0));
-    let other = outer(t, links, two.get(1));
-    let whole = regular(t, ranks, links);
-    let path = ((links.count + 1 == ranks.count) & (two.count == 2)) & whole;
+    let size = GroupSize {
+        spans: group.ranks.count,
+    };
+    let two = group_end_nodes(t, group);
+    let one = outer(t, group.links, two.get(0));
+    let other = outer(t, group.links, two.get(1));
+    let whole = regular(t, group);
+    let path = ((group.links.count + 1 == group.ranks.count) & (two.count == 2)) & whole;
     (size.allowed(least, limits) & path) & (one != other)
 }

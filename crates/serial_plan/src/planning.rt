@@ -13,7 +13,19 @@ use serial_candidates::candidate_links;
 use serial_links::limits::Limits;
 use serial_measures::measure_links;
 
-// The links with their marks, and the first pairs of the ranks. Gives how many links there are; the table is left as it was.
+// The first pairs of the ranks, and the links with their marks.
+#[derive(Drop)]
+struct Measured {
+    lowers: [u32; 256],
+    highers: [u32; 256],
+    regions: [u32; 256],
+    firsts: [u32; 256],
+    seconds: [u32; 256],
+    passing: [u8; 256],
+    flat: [u8; 256],
+}
+
+// Gives how many links there are; the table is left as it was.
 fn measured_links(
     limits: Limits,
     job: &[u8],
@@ -33,21 +45,15 @@ fn measured_links(
     lefts: &[u32],
     rights: &[u32],
     records: usize,
-    lowers: &mut [u32; 256],
-    highers: &mut [u32; 256],
-    regions: &mut [u32; 256],
-    firsts: &mut [u32; 256],
-    seconds: &mut [u32; 256],
-    passing: &mut [u8; 256],
-    flat: &mut [u8; 256],
+    found: &mut Measured,
 ) -> usize
     requires { PlanInput job.now bases_at bases cells.now width height n own.now bits.now ramps.now work.old removed.now separated.now
         owners.now lefts.now rights.now records }
     ensures work { work.new ≡ work.old }
     ensures links { LinksFrom (limits_of limits) job.now bases_at bases (map_of width height cells.now) n own.now
         bits.now ramps.now (labels_in work.old (length cells.now)) removed.now
-        separated.now owners.now lefts.now rights.now records lowers.new highers.new
-        regions.new firsts.new seconds.new passing.new flat.new result }
+        separated.now owners.now lefts.now rights.now records found.new.lowers found.new.highers
+        found.new.regions found.new.firsts found.new.seconds found.new.passing found.new.flat result }
 {
     let m = cells.len();
     let mut anchors = [0u32; 256];
@@ -74,26 +80,26 @@ fn measured_links(
         rights,
         records,
         &mut counts,
-        lowers,
-        highers,
-        regions,
-        firsts,
-        seconds,
+        &mut found.lowers,
+        &mut found.highers,
+        &mut found.regions,
+        &mut found.firsts,
+        &mut found.seconds,
     );
     measure_links(
         cells,
         width,
         height,
         work,
-        regions,
-        firsts,
-        seconds,
+        &found.regions,
+        &found.firsts,
+        &found.seconds,
         links,
         own,
         bits,
         limits,
-        passing,
-        flat,
+        &mut found.passing,
+        &mut found.flat,
         &mut inside,
     );
     links
@@ -130,50 +136,29 @@ pub fn plan_merges(
         bits.now ramps.now (labels_in work.old (length cells.now)) removed.now
         separated.now owners.now lefts.now rights.now records marks.now into.new }
 {
-    let mut lowers = [0u32; 256];
-    let mut highers = [0u32; 256];
-    let mut regions = [0u32; 256];
-    let mut firsts = [0u32; 256];
-    let mut seconds = [0u32; 256];
-    let mut passing = [0u8; 256];
-    let mut flat = [0u8; 256];
+    let mut found = Measured {
+        lowers: [0u32; 256],
+        highers: [0u32; 256],
+        regions: [0u32; 256],
+        firsts: [0u32; 256],
+        seconds: [0u32; 256],
+        passing: [0u8; 256],
+        flat: [0u8; 256],
+    };
     let links = measured_links(
-        limits,
-        job,
-        bases_at,
-        bases,
-        cells,
-        width,
-        height,
-        n,
-        own,
-        bits,
-        ramps,
-        work,
-        removed,
-        separated,
-        owners,
-        lefts,
-        rights,
-        records,
-        &mut lowers,
-        &mut highers,
-        &mut regions,
-        &mut firsts,
-        &mut seconds,
-        &mut passing,
-        &mut flat,
+        limits, job, bases_at, bases, cells, width, height, n, own, bits, ramps, work, removed,
+        separated, owners, lefts, rights, records, &mut found,
     );
     let t = Tables {
         n,
         own,
         bits,
-        lowers: &lowers,
-        highers: &highers,
+        lowers: &found.lowers,
+        highers: &found.highers,
         links,
-        regions: &regions,
-        firsts: &firsts,
-        seconds: &seconds,
+        regions: &found.regions,
+        firsts: &found.firsts,
+        seconds: &found.seconds,
     };
-    merge_plan(limits, &t, marks, &passing, &flat, into);
+    merge_plan(limits, &t, marks, &found.passing, &found.flat, into);
 }

@@ -2,20 +2,14 @@
 ghost use Rattle.std.specs.Prelude.{◌≡◌, cond, ◌&&◌, ℕ, ◌<◌, ◌≤◌, eqb, length};
 ghost use Rattle.lists.specs.Rows.{at};
 ghost use Rattle.serial_links.specs.HeldLimits.{limits_of};
-ghost use Rattle.serial_plan.specs.Arrays.{is_on, LinkRanks, FirstAre};
+ghost use Rattle.serial_plan.specs.Arrays.{is_on, FirstAre};
 ghost use Rattle.serial_plan.specs.Shape.{both_on, flat_link_in};
 ghost use Rattle.serial_plan.specs.Fitting.{RankFits, LinkFits};
+ghost use Rattle.serial_plan.specs.Tables.{LinkedTables};
 
 use crate::alike::alike;
 use crate::tables::Tables;
 use serial_links::limits::Limits;
-use wire::size;
-
-fn mark(on: bool) -> u8
-    ensures { result ≡ cond on 1 0 }
-{
-    if on { 1 } else { 0 }
-}
 
 // Both ranks are marked.
 fn both_on(marks: &[u8; 256], first: usize, second: usize) -> bool
@@ -26,13 +20,14 @@ fn both_on(marks: &[u8; 256], first: usize, second: usize) -> bool
 }
 
 // Marks the links of which both ranks are bridges.
+// Not one function over a closure with select_flat: all that they share is the loop's line.
 pub fn select_serial(marks: &[u8; 256], t: &Tables, chosen: &mut [u8; 256])
-    requires { (length chosen.old ≡ 256) × LinkRanks 256 t.now.firsts.now t.now.seconds.now t.now.links }
+    requires { (length chosen.old ≡ 256) × LinkedTables t.now }
     ensures { FirstAre (λ k. cond (both_on marks.now (at t.now.firsts.now k) (at t.now.seconds.now k)) 1 0) t.now.links
         chosen.new }
 {
     for k in 0..t.links {
-        chosen[k] = mark(both_on(marks, size(t.firsts[k]), size(t.seconds[k])));
+        chosen[k] = u8::from(both_on(marks, t.firsts[k] as usize, t.seconds[k] as usize));
     }
 }
 
@@ -75,13 +70,13 @@ pub fn select_flat(
         (at t.now.seconds.now k)) 1 0) t.now.links chosen.new }
 {
     for k in 0..t.links {
-        chosen[k] = mark(is_flat_link(
+        chosen[k] = u8::from(is_flat_link(
             limits,
             t.own,
             flat[k],
             into,
-            size(t.firsts[k]),
-            size(t.seconds[k]),
+            t.firsts[k] as usize,
+            t.seconds[k] as usize,
         ));
     }
 }

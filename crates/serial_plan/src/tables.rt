@@ -15,6 +15,7 @@ pub struct Tables<'a> {
 }
 
 // The chosen links, the ranks that they join, and the part of each rank.
+// Bytes, not bool: is_on reads them as it reads the marks that other crates lend.
 #[derive(Clone, Copy)]
 pub struct Groups<'a> {
     pub chosen: &'a [u8; 256],

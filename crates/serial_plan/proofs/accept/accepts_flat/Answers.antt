@@ -12,10 +12,10 @@ pub returns-then-not-path : goal.returns-then-not-path
 returns-then-not-path c =
     let a = c.args in
     flat-no (limits_of a.limits) a.t.now.own.now a.t.now.lowers.now a.t.now.highers.now a.t.now.regions.now a.t.now.firsts.now a.t.now.seconds.now
-    (few_list a.ranks) (few_list a.links) c.group_is_simple_path-path.ensures (ap not c.if-not-path.true)
+    (few_list a.group.now.ranks) (few_list a.group.now.links) c.group_is_simple_path-path.ensures (ap not c.if-not-path.true)
 
 pub returns : goal.returns
 returns c =
     let a = c.args in
     flat-yes (limits_of a.limits) a.t.now.own.now a.t.now.lowers.now a.t.now.highers.now a.t.now.regions.now a.t.now.firsts.now a.t.now.seconds.now
-    (few_list a.ranks) (few_list a.links) c.group_is_simple_path-path.ensures (ap not c.if-not-path.false) c.all_alike.ensures
+    (few_list a.group.now.ranks) (few_list a.group.now.links) c.group_is_simple_path-path.ensures (ap not c.if-not-path.false) c.all_alike.ensures

@@ -1,3 +1,4 @@
+use mathlib.Core.Path.{refl}
 use native.Mathlib.Omega.{arith}
 use Rattle.serial_plan.specs.Arrays.{in_part}
 use Rattle.serial_plan.proofs.FewLaws.{picked-start, picked-room, picked_next, picked-whole}
@@ -14,7 +15,7 @@ pub loop-i-preserved : goal.loop-i-preserved
 loop-i-preserved c =
     let inv = c.loop-i.invariant in (
       omega (arith, inv.0),
-      picked_next inv.1 c.loop-i-test.true inv.0 c.with-found.ensures c.in_part.ensures c.number.ensures,
+      picked_next inv.1 c.loop-i-test.true inv.0 c.with-found.ensures c.in_part.ensures refl,
     )
 
 pub returns : goal.returns

@@ -1,5 +1,7 @@
 use mathlib.Core.Path.{refl}
+use Rattle.serial_links.specs.HeldLimits.{limits_of}
 use Rattle.serial_plan.proofs.JudgeLaws.{wider-ranked, link_fits}
+use Rattle.serial_plan.proofs.IntoLaws.{by-flat}
 use Rattle.serial_plan.proofs.merge.flat_plan.Goals as goal
 
 pub select_flat-requires : goal.select_flat-requires
@@ -8,3 +10,16 @@ select_flat-requires c = (refl, c.requires.1.fit.ranked.few, link_fits c.require
 pub join_chosen-requires : goal.join_chosen-requires
 join_chosen-requires c =
     (wider-ranked c.requires.1, refl, refl)
+
+pub returns : goal.returns
+returns c =
+    let t = c.args.t.now in
+    record {
+      chosen = c.select_flat.new.chosen;
+      parts = c.join_chosen.new.parts;
+      joined = c.join_chosen.new.joined;
+      selected = c.select_flat.ensures;
+      parted = c.join_chosen.ensures;
+      goes = by-flat (limits_of c.args.limits) t.n t.own.now t.bits.now t.lowers.now t.highers.now t.regions.now t.firsts.now t.seconds.now t.links _ _ _
+          c.into_groups.ensures;
+    }

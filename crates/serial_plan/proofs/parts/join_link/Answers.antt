@@ -1,3 +1,4 @@
+use mathlib.Core.Path.{refl}
 use Rattle.serial_plan.proofs.ArrayLaws.{link-yes, link-no}
 use Rattle.serial_plan.proofs.parts.join_link.Goals as goal
 
@@ -6,5 +7,5 @@ returns-then-on-ne1 c = link-no c.args.on c.args.first c.args.second c.args.part
 
 pub returns : goal.returns
 returns c =
-    link-yes c.args.on c.args.first c.args.second c.size.result c.size-2.result c.args.parts.now
-    c.if-on-ne1.false c.size.ensures.0 c.size-2.ensures.0 c.join_parts.ensures
+    link-yes c.args.on c.args.first c.args.second c.args.first c.args.second c.args.parts.now c.if-on-ne1.false refl refl
+    c.join_parts.ensures

@@ -8,5 +8,5 @@ loop-i-preserved c =
 
 pub returns : goal.returns
 returns c =
-    join-as c.args.a c.args.b c.smaller-low.result c.larger-high.result c.args.parts.now
-    c.smaller-low.ensures c.larger-high.ensures (mapped-all c.loop-i.invariant c.loop-i-test.false)
+    join-as c.args.a c.args.b c.min-low.result c.max-high.result c.args.parts.now
+    c.min-low.ensures c.max-high.ensures (mapped-all c.loop-i.invariant c.loop-i-test.false)

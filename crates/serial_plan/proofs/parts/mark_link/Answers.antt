@@ -1,3 +1,4 @@
+use mathlib.Core.Path.{refl}
 use Rattle.serial_plan.proofs.ArrayLaws.{mark-yes, mark-no}
 use Rattle.serial_plan.proofs.parts.mark_link.Goals as goal
 
@@ -9,5 +10,5 @@ returns-then-on-ne1 c =
 pub returns : goal.returns
 returns c =
     let a = c.args in
-    mark-yes a.on a.first a.second a.joined.now c.if-on-ne1.false c.size.ensures.0 c.size-2.ensures.0 c.requires.0
+    mark-yes a.on a.first a.second a.joined.now c.if-on-ne1.false refl refl c.requires.0
     c.requires.1 c.requires.2

@@ -27,10 +27,10 @@ loop-j-preserved c =
       omega (arith, inv.0),
       picked_next inv.1 c.loop-j-test.true inv.0 c.with-found.ensures
           (ap (λ (d : ℕ). eqb d 1) (ap (λ (n : Near). n.count) c.links_at-near.ensures)
-          ∙ ap (λ (i : ℕ). eqb (degree_in a.t.now.firsts.now a.t.now.seconds.now (few_list a.links) i) 1) c.get-i.ensures) c.get-i.ensures,
+          ∙ ap (λ (i : ℕ). eqb (degree_in a.t.now.firsts.now a.t.now.seconds.now (few_list a.group.now.links) i) 1) c.get-i.ensures) c.get-i.ensures,
     )
 
 pub returns : goal.returns
 returns c =
-    ends-whole c.args.t.now.firsts.now c.args.t.now.seconds.now (few_list c.args.links) c.args.ranks c.loop-j.invariant.1
+    ends-whole c.args.t.now.firsts.now c.args.t.now.seconds.now (few_list c.args.group.now.links) c.args.group.now.ranks c.loop-j.invariant.1
     (omega (arith, c.loop-j-test.false))

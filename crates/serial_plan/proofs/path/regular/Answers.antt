@@ -14,8 +14,8 @@ pub loop-j-init : goal.loop-j-init
 loop-j-init c =
     let seconds = c.args.t.now.seconds.now in
     let firsts = c.args.t.now.firsts.now in
-    let ranks = c.args.ranks in
-    let links = c.args.links in (
+    let ranks = c.args.group.now.ranks in
+    let links = c.args.group.now.links in (
       omega arith,
       each_start (λ (i : ℕ). leb 1 (degree_in firsts seconds (few_list links) i) && leb (degree_in firsts seconds (few_list links) i) 2) (few_at ranks)
           ranks.count,
@@ -29,8 +29,8 @@ pub loop-j-preserved : goal.loop-j-preserved
 loop-j-preserved c =
     let seconds = c.args.t.now.seconds.now in
     let firsts = c.args.t.now.firsts.now in
-    let ranks = c.args.ranks in
-    let links = c.args.links in (
+    let ranks = c.args.group.now.ranks in
+    let links = c.args.group.now.links in (
       omega (arith, c.loop-j.invariant.0),
       each_next (λ (i : ℕ). leb 1 (degree_in firsts seconds (few_list links) i) && leb (degree_in firsts seconds (few_list links) i) 2) (few_at ranks)
           ranks.count
@@ -42,5 +42,5 @@ loop-j-preserved c =
 
 pub returns : goal.returns
 returns c =
-    regular-whole c.args.t.now.firsts.now c.args.t.now.seconds.now (few_list c.args.links) c.args.ranks c.loop-j.invariant.1
+    regular-whole c.args.t.now.firsts.now c.args.t.now.seconds.now (few_list c.args.group.now.links) c.args.group.now.ranks c.loop-j.invariant.1
     (omega (arith, c.loop-j-test.false))

@@ -8,7 +8,7 @@ use Rattle.serial_plan.proofs.path.regular.Given as goal
 
 abbrev pub invariant-loop-j : goal.invariant-loop-j
 invariant-loop-j l =
-    (l.j ≤ l.ranks.count) × Each (λ (i : ℕ). leb 1 (degree_in l.t.firsts.now l.t.seconds.now (few_list l.links) i) && leb (degree_in l.t.firsts.now
-    l.t.seconds.now (few_list l.links) i) 2)
-    (few_at l.ranks)
-    l.ranks.count l.j l.all
+    (l.j ≤ l.group.ranks.count) × Each (λ (i : ℕ). leb 1 (degree_in l.t.firsts.now l.t.seconds.now (few_list l.group.links) i) && leb (degree_in l.t.firsts.now
+    l.t.seconds.now (few_list l.group.links) i) 2)
+    (few_at l.group.ranks)
+    l.group.ranks.count l.j l.all

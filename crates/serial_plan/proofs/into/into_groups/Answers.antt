@@ -1,19 +1,18 @@
 use Prim.Native.Nat.{◌-◌}
 use native.Mathlib.Omega.{arith}
 use Rattle.serial_plan.proofs.ArrayLaws.{filled_next}
-use Rattle.serial_plan.proofs.into.into_serial.Goals as goal
+use Rattle.serial_plan.proofs.into.into_groups.Goals as goal
 
-pub one_serial-requires : goal.one_serial-requires
-one_serial-requires c =
+pub one_into-requires : goal.one_into-requires
+one_into-requires g c =
     (c.requires.0, c.requires.1, omega (arith, c.loop-i-test.true, c.requires.1.fit.few), c.loop-i.invariant.1)
 
 pub bounds-into-i : goal.bounds-into-i
-bounds-into-i c =
+bounds-into-i g c =
     omega (arith, c.loop-i-test.true, c.requires.1.fit.few, c.loop-i.invariant.1.size)
 
 pub loop-i-preserved : goal.loop-i-preserved
-loop-i-preserved c = (
+loop-i-preserved g c = (
   omega (arith, c.loop-i-test.true),
-  filled_next c.one_serial.result c.loop-i.invariant.1 (omega (arith, c.loop-i-test.true, c.requires.1.fit.few))
-      c.one_serial.ensures,
+  filled_next c.one_into.result c.loop-i.invariant.1 (omega (arith, c.loop-i-test.true, c.requires.1.fit.few)) c.one_into.ensures,
 )
