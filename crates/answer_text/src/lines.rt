@@ -35,20 +35,6 @@ pub fn write_field(v: u64, out: &mut [u8], at: usize) -> usize
     write_decimal(v, out, end)
 }
 
-pub fn write_word(v: u32, out: &mut [u8], at: usize) -> usize
-    requires { TextRoom (field_text v) out.old at }
-    ensures { Writes (field_text v) out.old at out.new result }
-{
-    write_field(v as u64, out, at)
-}
-
-fn write_count(v: usize, out: &mut [u8], at: usize) -> usize
-    requires { TextRoom (field_text v) out.old at }
-    ensures { Writes (field_text v) out.old at out.new result }
-{
-    write_field(v as u64, out, at)
-}
-
 fn write_bits(v: u64, out: &mut [u8], at: usize) -> usize
     requires { TextRoom (bits_text v) out.old at }
     ensures { Writes (bits_text v) out.old at out.new result }
@@ -62,10 +48,10 @@ fn write_four(a: u32, b: u32, c: u32, d: u32, out: &mut [u8], at: usize) -> usiz
     requires { TextRoom (four_fields a b c d) out.old at }
     ensures { Writes (four_fields a b c d) out.old at out.new result }
 {
-    let end1 = write_word(a, out, at);
-    let end2 = write_word(b, out, end1);
-    let end3 = write_word(c, out, end2);
-    write_word(d, out, end3)
+    let end1 = write_field(a as u64, out, at);
+    let end2 = write_field(b as u64, out, end1);
+    let end3 = write_field(c as u64, out, end2);
+    write_field(d as u64, out, end3)
 }
 
 fn write_ends(e: Span, out: &mut [u8], at: usize) -> usize
@@ -110,7 +96,7 @@ fn write_head(letter: u8, e: Span, bits: u64, n: usize, out: &mut [u8], at: usiz
     let end1 = write_byte(letter, out, at);
     let end2 = write_ends(e, out, end1);
     let end3 = write_bits(bits, out, end2);
-    write_count(n, out, end3)
+    write_field(n as u64, out, end3)
 }
 
 // An o line, with the number of sources that there are.
@@ -137,7 +123,7 @@ pub fn write_boundary_line(
     let ends = b.ends;
     let ramp = b.ramp;
     let end1 = write_head(b'b', ends, b.bits, n, out, at);
-    let end2 = write_count(m, out, end1);
+    let end2 = write_field(m as u64, out, end1);
     let end3 = write_ramp(ramp, out, end2);
     write_byte(b'\n', out, end3)
 }

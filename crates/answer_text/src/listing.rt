@@ -3,7 +3,7 @@ ghost use Rattle.std.specs.Prelude.{◌+◌, ◌*◌, ◌≤◌, ◌<◌, length
 ghost use Rattle.answer_text.specs.Lines.{kept_line, refused_line};
 ghost use Rattle.answer_text.specs.Answer.{TextRoom, Writes, answer_text};
 
-use crate::lines::{write_byte, write_pair, write_text, write_word};
+use crate::lines::{write_byte, write_field, write_pair, write_text};
 use crate::walk::{Cursor, write_boundaries};
 use format::{ANSWER_BOUNDARY_SIZE, ANSWER_HEADER_SIZE, OBSERVATION_SIZE, SOURCE_SIZE};
 use wire::read_u32;
@@ -13,7 +13,7 @@ fn write_kept(n: u32, out: &mut [u8], at: usize) -> usize
     ensures { Writes (kept_line n) out.old at out.new result }
 {
     let end1 = write_text(b"kept", out, at);
-    let end2 = write_word(n, out, end1);
+    let end2 = write_field(n as u64, out, end1);
     write_byte(b'\n', out, end2)
 }
 

@@ -1,5 +1,5 @@
 use Rattle.std.proofs.Common.{arith}
-use Rattle.answer_text.proofs.Spelling.{remainder-small, spelt-start, spelt-long, spelt-next, spelt-end}
+use Rattle.answer_text.proofs.Spelling.{remainder-small, spelt-start, spelt-next, spelt-end}
 use Rattle.answer_text.proofs.digits.write_digits.Goals as goal
 
 pub loop-i-init : goal.loop-i-init

@@ -12,11 +12,11 @@ pub write_bits-end3-requires : goal.write_bits-end3-requires
 write_bits-end3-requires c =
     room (next (next (head-start _ _ _ _ _ _ c.requires) c.write_byte-end1.ensures) c.write_ends-end2.ensures)
 
-pub write_count-requires : goal.write_count-requires
-write_count-requires c =
+pub write_field-requires : goal.write_field-requires
+write_field-requires c =
     room (next (next (next (head-start _ _ _ _ _ _ c.requires) c.write_byte-end1.ensures) c.write_ends-end2.ensures) c.write_bits-end3.ensures)
 
 pub returns : goal.returns
 returns c =
     done (next (next (next (next (head-start _ _ _ _ _ _ c.requires) c.write_byte-end1.ensures) c.write_ends-end2.ensures)
-    c.write_bits-end3.ensures) c.write_count.ensures)
+    c.write_bits-end3.ensures) c.write_field.ensures)
