@@ -81,6 +81,7 @@ impl Cut {
     {
         let tall = is_tall(self.span);
         let range = strip_minor(self.span, self.width, self.height, c);
+        // To last + 1, not ..=: that loop has a second test at its end.
         for cm in range.first..range.last + 1 {
             self.close_cell(place_at(tall, c, cm), work, base);
         }
