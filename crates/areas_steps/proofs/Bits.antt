@@ -1,9 +1,11 @@
 -- The bits of a cell's byte: where no step is cut, and with one more span.
-use mathlib.Core.Path.{◌≡◌, refl, ◌∙◌}
+use mathlib.Core.Path.{◌≡◌, refl, sym, ◌∙◌, ap}
 use mathlib.Core.Bool.{Bool, true, false, not, ◌&&◌, ◌||◌}
 use mathlib.Core.List.{List, [], ◌∷◌, ◌++◌}
 use Prim.Native.Nat.{ℕ, ◌+◌, ◌*◌, ◌/◌, ◌%◌, ◌≤◌, ◌<◌}
 use native.Mathlib.Omega.{arith}
+use lib.Dec.{eqb}
+use Rattle.std.specs.Int.{from_bool}
 use Rattle.order.specs.Lists.{has}
 use Rattle.order.proofs.Bools.{is_false, by-test, and_parts}
 use Rattle.position.specs.Order.{pos_le}
@@ -39,6 +41,15 @@ pub byte-from : (dirs : List ℕ) (g : Grid) (ss : List Span) (i k l m n : ℕ) 
     k + 2 * l + 4 * m + 8 * n ≡ open_byte dirs g ss i
 unfolding open_byte
 byte-from dirs g ss i k l m n a b c d = omega arith
+
+-- a flag and its bit
+pub bit-from : (t : Bool) → from_bool t ≡ bit_of t
+bit-from true = refl
+bit-from false = refl
+
+bit-set : (b : ℕ) (t : Bool) → b ≡ bit_of t → eqb b 1 ≡ t
+bit-set b true e = rw e
+bit-set b false e = rw e
 
 -- with no span
 and_yes : (s t : Bool) → s && t ≡ s && (t && true)
@@ -78,6 +89,15 @@ module _ (dirs : List ℕ) (g : Grid) (ss : List Span) (s : Span) (i k : ℕ) wh
   pub open-leads : is_open dirs g ss i k ≡ true → leads_on g i (5 + k) ≡ true
   open-leads h = (has-step g i (5 + k) (open_step h)).leads
 
+  -- a bit that is kept, or is not
+  pub bit-kept : {b v : ℕ} {r : Bool} → b ≡ bit_of (is_open dirs g ss i k)
+      → ((eqb b 1 ≡ true → leads_on g i (5 + k) ≡ true) → r ≡ (eqb b 1 && not (cut_by g s (step_of i (neighbour g i (5 + k)))))) → v ≡ from_bool r
+      → v ≡ bit_of (is_open dirs g (ss ++ (s ∷ [])) i k)
+  bit-kept {b} {v} {r} e h f =
+      let q = bit-set b (is_open dirs g ss i k) e in
+      let cut = cut_by g s (step_of i (neighbour g i (5 + k))) in
+      f ∙ bit-from r ∙ ap bit_of (h (λ z. open-leads (sym q ∙ z)) ∙ ap (λ (t : Bool). t && not cut) q ∙ sym open-last)
+
   -- a span leaves the cells that are not in its strip as they are
   pub open-off : Whole g → pos_le s.a s.b ≡ true → k < 4 → (InStrip g s i → ⊥) → is_open dirs g (ss ++ (s ∷ [])) i k ≡ is_open dirs g ss i k
   open-off whole o l off =
@@ -98,19 +118,3 @@ byte-off dirs g ss s i whole o off =
       open-off dirs g ss s i 2 whole o (omega arith) off,
       open-off dirs g ss s i 3 whole o (omega arith) off,
     )
-
--- a bit that is kept, or is not
-pub kept-none : (b : ℕ) (t q : Bool) → b ≡ 0 → b ≡ bit_of t → 0 ≡ bit_of (t && not q)
-kept-none b true q z e = absurd (omega arith)
-kept-none b false q z e = refl
-
-pub kept_off : (t q : Bool) → (t ≡ true → ⊥) → 0 ≡ bit_of (t && not q)
-kept_off t q h = rw (is_false t h)
-
-pub kept-cut : (t q : Bool) → q ≡ true → 0 ≡ bit_of (t && not q)
-kept-cut true q h = rw h
-kept-cut false q h = refl
-
-pub kept_whole : (b : ℕ) (t q : Bool) → (b ≡ 0 → ⊥) → b ≡ bit_of t → q ≡ false → 1 ≡ bit_of (t && not q)
-kept_whole b true q z e h = rw h
-kept_whole b false q z e h = absurd (z e)

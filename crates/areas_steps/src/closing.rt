@@ -1,10 +1,10 @@
 // The steps that a span cuts, taken out of the bytes of a map.
-ghost use Rattle.std.specs.Prelude.{◌≡◌, Bool, true, not, cond, ◌&&◌, List, [], ◌∷◌, ◌++◌, ℕ, ◌+◌, ◌*◌, ◌<◌, ◌≤◌, length};
+ghost use Rattle.std.specs.Prelude.{◌≡◌, true, not, cond, ◌&&◌, List, [], ◌∷◌, ◌++◌, ℕ, ◌+◌, ◌*◌, ◌<◌, ◌≤◌, length};
 ghost use Rattle.position.specs.declared.Span.{Span};
 ghost use Rattle.grid.specs.Cells.{Grid, size, column_of, row_of};
 ghost use Rattle.grid.specs.Steps.{leads_on, neighbour, step_of};
 ghost use Rattle.areas.specs.Cuts.{cut_by};
-ghost use Rattle.areas.specs.Open.{bit_of, open_byte};
+ghost use Rattle.areas.specs.Open.{open_byte};
 ghost use Rattle.areas.specs.Spans.{Sides, SpanFits};
 ghost use Rattle.areas.specs.Strip.{tall};
 ghost use Rattle.areas_steps.specs.Marks.{MapOf, WorkHolds, rank_at, Closes};
@@ -36,23 +36,19 @@ fn place_at(tall: bool, c: u32, cm: u32) -> WalkPosition
 }
 
 impl Cut {
-    // The bit of direction d at the cell at a place of the map, where the span cuts no step, and else 0.
-    fn keep_bit(self, bit: u8, position: WalkPosition, d: u32) -> u8
+    // A step in direction d from the cell at a place of the map that is uncut so far stays so with the span.
+    fn keeps(self, uncut: bool, position: WalkPosition, d: u32) -> bool
         requires { (position.x < self.width) × (position.y < self.height) × (d < 9) }
-        ensures { ((g : Grid) (i : ℕ) (t : Bool) → MapOf self.width self.height g → column_of g i ≡ position.x → row_of g i ≡ position.y
-            → (t ≡ true → leads_on g i d ≡ true) → bit ≡ bit_of t
-            → result ≡ bit_of (t && not (cut_by g self.span (step_of i (neighbour g i d))))) × (result ≤ 1) }
+        ensures { (g : Grid) (i : ℕ) → MapOf self.width self.height g → column_of g i ≡ position.x → row_of g i ≡ position.y
+            → (uncut ≡ true → leads_on g i d ≡ true) → result ≡ (uncut && not (cut_by g self.span (step_of i (neighbour g i d)))) }
     {
-        if bit == 0 {
-            return 0;
+        if !uncut {
+            return false;
         }
         if !leads_on(self.width, self.height, position, d) {
-            return 0;
+            return false;
         }
-        if cut_by(self.span, position, place_to(position, d)) {
-            return 0;
-        }
-        1
+        !cut_by(self.span, position, place_to(position, d))
     }
 
     // The byte of the cell at a place of the map, with one more span.
@@ -61,11 +57,11 @@ impl Cut {
         ensures { (g : Grid) (dirs : List ℕ) (ss : List Span) (i : ℕ) → MapOf self.width self.height g → column_of g i ≡ position.x
             → row_of g i ≡ position.y → byte ≡ open_byte dirs g ss i → result ≡ open_byte dirs g (ss ++ (self.span ∷ [])) i }
     {
-        let right = self.keep_bit(byte % 2, position, 5);
-        let below_left = self.keep_bit(byte / 2 % 2, position, 6);
-        let below = self.keep_bit(byte / 4 % 2, position, 7);
-        let below_right = self.keep_bit(byte / 8 % 2, position, 8);
-        right + 2 * below_left + 4 * below + 8 * below_right
+        let right = self.keeps(byte % 2 == 1, position, 5);
+        let below_left = self.keeps(byte / 2 % 2 == 1, position, 6);
+        let below = self.keeps(byte / 4 % 2 == 1, position, 7);
+        let below_right = self.keeps(byte / 8 % 2 == 1, position, 8);
+        u8::from(right) + 2 * u8::from(below_left) + 4 * u8::from(below) + 8 * u8::from(below_right)
     }
 
     // Takes the steps that the span cuts out of the byte of one cell.
@@ -85,6 +81,7 @@ impl Cut {
     {
         let tall = is_tall(self.span);
         let range = strip_minor(self.span, self.width, self.height, c);
+        // To last + 1, not ..=: that loop has a second test at its end.
         for cm in range.first..range.last + 1 {
             self.close_cell(place_at(tall, c, cm), work, base);
         }

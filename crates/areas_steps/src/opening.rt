@@ -6,7 +6,7 @@ ghost use Rattle.wire.specs.Bytes.{splice};
 ghost use Rattle.grid.specs.Cells.{map_of};
 ghost use Rattle.grid.specs.Directions.{directions_of};
 ghost use Rattle.grid.specs.Steps.{has_step};
-ghost use Rattle.areas.specs.Open.{bit_of, open_byte};
+ghost use Rattle.areas.specs.Open.{open_byte};
 ghost use Rattle.areas.specs.Spans.{Sides};
 ghost use Rattle.areas_steps.specs.Marks.{WorkHolds};
 
@@ -34,20 +34,14 @@ struct Terrain<'a> {
 }
 
 impl<'a> Terrain<'a> {
-    // 1 where the direction is in the set and a step leads in it from the cell at a place of the map, else 0.
-    fn open_bit(self, position: WalkPosition, d: u32) -> u8
+    // The direction is in the set, and a step leads in it from the cell at a place of the map.
+    fn opens(self, position: WalkPosition, d: u32) -> bool
         requires { (position.x < self.width) × (position.y < self.height) × (d < 9) }
         ensures { let t = self.entry in
-            (result ≡ bit_of (has d (directions_of t.directions) && has_step (map_of t.width t.height t.cells.now) (position.y * t.width + position.x) d))
-            × (result ≤ 1) }
+            result ≡ (has d (directions_of t.directions) && has_step (map_of t.width t.height t.cells.now) (position.y * t.width + position.x) d) }
     {
-        if !has_direction(self.directions, d) {
-            return 0;
-        }
-        if !step_at(self.cells, self.width, self.height, position, d) {
-            return 0;
-        }
-        1
+        has_direction(self.directions, d)
+            && step_at(self.cells, self.width, self.height, position, d)
     }
 
     // The byte of the cell at a place of the map, where no step is cut.
@@ -56,11 +50,11 @@ impl<'a> Terrain<'a> {
         ensures { let t = self.entry in
             result ≡ open_byte (directions_of t.directions) (map_of t.width t.height t.cells.now) [] (position.y * t.width + position.x) }
     {
-        let right = self.open_bit(position, 5);
-        let below_left = self.open_bit(position, 6);
-        let below = self.open_bit(position, 7);
-        let below_right = self.open_bit(position, 8);
-        right + 2 * below_left + 4 * below + 8 * below_right
+        let right = self.opens(position, 5);
+        let below_left = self.opens(position, 6);
+        let below = self.opens(position, 7);
+        let below_right = self.opens(position, 8);
+        u8::from(right) + 2 * u8::from(below_left) + 4 * u8::from(below) + 8 * u8::from(below_right)
     }
 
     // Writes the bytes of a row, where those of the rows above are written.

@@ -10,7 +10,7 @@ use super::closing::close_cut;
 use super::opening::open_steps;
 use areas::spans::span_at;
 
-// Writes the bytes of all the cells from base on.
+// Writes the bytes of all the cells from base on. The spans are numbers in a lent array and their count, not a Vec: there is no heap.
 pub fn mark_spans(
     cells: &[u8],
     width: u32,

@@ -30,7 +30,8 @@ fn add_label(
     found + 1
 }
 
-// The labels of the cells of all bases' anchors, in the order of the bases. Gives how many there are.
+// The labels of the cells of all bases' anchors, in the order of the bases. Gives how many there are. A lent slice and a count, not a Vec:
+// there is no heap.
 pub fn anchor_labels(
     job: &[u8],
     at: usize,

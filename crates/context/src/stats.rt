@@ -7,6 +7,7 @@ ghost use Rattle.context.specs.Held.{CellRoom, stats_in, lesser, stats_with_cell
 use wire::read_u32;
 
 // The box is in whole pixels, its right and lower edge past the last cell; `level_0` to `level_3` count the cells of each elevation.
+// Four fields, not an array: a clause sees an array as a list of any length, and a card has four counts.
 #[derive(Clone, Copy)]
 pub struct RegionStats {
     pub cells: u32,

@@ -83,7 +83,8 @@ fn across(width: u32, position: WalkPosition, d: u32) -> u32
     index(width, WalkPosition { x, y })
 }
 
-// The cell and the one that the direction leads to are walkable.
+// The cell and the one that the direction leads to are walkable. The map comes in parts, as `step_at` gets it: a struct for two functions
+// would be longer.
 fn ends_walkable(cells: &[u8], width: u32, height: u32, position: WalkPosition, d: u32) -> bool
     requires { CellPlace width height cells.now position × (d < 9)
         × (leads_on (record { width = width; height = height; cells = cells.now }) (position.y * width + position.x) d ≡ true) }
