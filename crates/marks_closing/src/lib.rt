@@ -12,7 +12,7 @@ ghost use Rattle.marks_closing.specs.Marks.{choke_marks};
 ghost use Rattle.marks_closing.specs.Ranges.{ListedRecords, ClearedForest, LentTables};
 
 use forest::Forest;
-use ranges::close_range;
+use ranges::Records;
 
 // The number of boundaries that a job can have.
 const BOUNDARIES: usize = 256;
@@ -52,17 +52,11 @@ pub fn close_boundaries(
         joined,
         earlier,
     };
-    close_range(
+    let records = Records {
         owners,
         lefts,
         rights,
         count,
-        0,
-        count,
-        0,
-        BOUNDARIES,
-        &mut forest,
-        0,
-        marks,
-    );
+    };
+    records.close_range(0, count, 0, BOUNDARIES, &mut forest, 0, marks);
 }

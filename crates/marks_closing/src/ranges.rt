@@ -11,103 +11,97 @@ ghost use Rattle.marks_closing.specs.Ranges.{RisingOwners, OwnersSplit, some_par
 
 use crate::forest::Forest;
 
-// Joins the ends of the records from `from` up to `to`. How long the log is then.
-fn join_records(
-    lefts: &[u32],
-    rights: &[u32],
-    from: usize,
-    to: usize,
-    forest: &mut Forest,
-    n: usize,
-) -> usize
-    requires { (from ≤ to) × Graph to (length forest.old.parents.now) lefts.now rights.now × LogRoom (tables forest.old) n (to - from) }
-    ensures { GrownForest (adding lefts.now rights.now from (to - from)) (to - from) (tables forest.old) n (tables forest.new) result }
-{
-    let mut m = n;
-    for k in from..to {
-        m = forest.join(m, lefts[k], rights[k]);
-    }
-    m
+// Records in the order of their owners: the first `count` places of three slices.
+#[derive(Clone, Copy)]
+pub(crate) struct Records<'a> {
+    pub(crate) owners: &'a [u32],
+    pub(crate) lefts: &'a [u32],
+    pub(crate) rights: &'a [u32],
+    pub(crate) count: usize,
 }
 
-// The ends of one of the records from `from` up to `to` have two roots.
-fn parted(lefts: &[u32], rights: &[u32], from: usize, to: usize, forest: &Forest) -> bool
-    requires { (from ≤ to) × Graph to (length forest.now.parents.now) lefts.now rights.now × HeightTrees forest.now.parents.now forest.now.heights.now }
-    ensures { (es : List Edge) → RootedForest es forest.now.parents.now →
-        result ≡ some_parted es lefts.now rights.now from (to - from) }
-{
-    for k in from..to {
-        let left = forest.find(lefts[k]);
-        let right = forest.find(rights[k]);
-        if left != right {
-            return true;
+impl Records<'_> {
+    // Joins the ends of the records from `from` up to `to`. How long the log is then.
+    fn join_records(&self, from: usize, to: usize, forest: &mut Forest, n: usize) -> usize
+        requires { (from ≤ to) × Graph to (length forest.old.parents.now) self.now.lefts.now self.now.rights.now
+            × LogRoom (tables forest.old) n (to - from) }
+        ensures { GrownForest (adding self.now.lefts.now self.now.rights.now from (to - from)) (to - from) (tables forest.old) n (tables forest.new) result }
+    {
+        let mut m = n;
+        for k in from..to {
+            m = forest.join(m, self.lefts[k], self.rights[k]);
         }
+        m
     }
-    false
-}
 
-// The mark of a boundary whose records are those from `from` up to `to`.
-fn mark_one(
-    lefts: &[u32],
-    rights: &[u32],
-    from: usize,
-    to: usize,
-    forest: &Forest,
-    b: usize,
-    marks: &mut [u8; 256],
-)
-    requires { (from ≤ to) × Graph to (length forest.now.parents.now) lefts.now rights.now
-        × HeightTrees forest.now.parents.now forest.now.heights.now × (b < 256) }
-    ensures { (es : List Edge) → RootedForest es forest.now.parents.now →
-        marks.new ≡ set marks.old b (bit (some_parted es lefts.now rights.now from (to - from))) }
-{
-    marks[b] = u8::from(parted(lefts, rights, from, to, forest));
-}
-
-// The first record from `from` on whose owner is not below b, or `to`.
-fn first_from(owners: &[u32], from: usize, to: usize, b: usize) -> usize
-    requires { (from ≤ to) × (to ≤ length owners.now) × RisingOwners to owners.now }
-    ensures { OwnersSplit owners.now from to b result }
-{
-    from + owners[from..to].partition_point(|&owner| (owner as usize) < b)
-}
-
-// Marks the boundaries lo, …, hi - 1, whose records are those from `from` up to `to`. The forest has all other records, and has them again at the end.
-pub fn close_range(
-    owners: &[u32],
-    lefts: &[u32],
-    rights: &[u32],
-    count: usize,
-    from: usize,
-    to: usize,
-    lo: usize,
-    hi: usize,
-    forest: &mut Forest,
-    n: usize,
-    marks: &mut [u8; 256],
-)
-    requires { OpenRange owners.now lefts.now rights.now count from to lo hi (tables forest.old) n marks.old }
-    ensures { ClosedRange owners.now lefts.now rights.now count lo hi (tables forest.old) (tables forest.new) n marks.old marks.new }
-{
-    if from == to {
-        return;
+    // The ends of one of the records from `from` up to `to` have two roots.
+    fn parted(&self, from: usize, to: usize, forest: &Forest) -> bool
+        requires { (from ≤ to) × Graph to (length forest.now.parents.now) self.now.lefts.now self.now.rights.now
+            × HeightTrees forest.now.parents.now forest.now.heights.now }
+        ensures { (es : List Edge) → RootedForest es forest.now.parents.now →
+            result ≡ some_parted es self.now.lefts.now self.now.rights.now from (to - from) }
+    {
+        for k in from..to {
+            let left = forest.find(self.lefts[k]);
+            let right = forest.find(self.rights[k]);
+            if left != right {
+                return true;
+            }
+        }
+        false
     }
-    let mut a = from;
-    let mut b = lo;
-    let mut m = n;
-    while 1 < hi - b {
-        let mid = b + (hi - b) / 2;
-        let cut = first_from(owners, a, to, mid);
-        // The first half is closed with the second joined, and is then joined itself.
-        let k = join_records(lefts, rights, cut, to, forest, m);
-        close_range(
-            owners, lefts, rights, count, a, cut, b, mid, forest, k, marks,
-        );
-        forest.undo(m, k);
-        m = join_records(lefts, rights, a, cut, forest, m);
-        a = cut;
-        b = mid;
+
+    // The mark of a boundary whose records are those from `from` up to `to`.
+    fn mark_one(&self, from: usize, to: usize, forest: &Forest, b: usize, marks: &mut [u8; 256])
+        requires { (from ≤ to) × Graph to (length forest.now.parents.now) self.now.lefts.now self.now.rights.now
+            × HeightTrees forest.now.parents.now forest.now.heights.now × (b < 256) }
+        ensures { (es : List Edge) → RootedForest es forest.now.parents.now →
+            marks.new ≡ set marks.old b (bit (some_parted es self.now.lefts.now self.now.rights.now from (to - from))) }
+    {
+        marks[b] = u8::from(self.parted(from, to, forest));
     }
-    mark_one(lefts, rights, a, to, forest, b, marks);
-    forest.undo(n, m);
+
+    // The first record from `from` on whose owner is not below b, or `to`.
+    fn first_from(&self, from: usize, to: usize, b: usize) -> usize
+        requires { (from ≤ to) × (to ≤ length self.now.owners.now) × RisingOwners to self.now.owners.now }
+        ensures { OwnersSplit self.now.owners.now from to b result }
+    {
+        from + self.owners[from..to].partition_point(|&owner| (owner as usize) < b)
+    }
+
+    // Marks the boundaries lo, …, hi - 1, whose records are those from `from` up to `to`. The forest has all other records, and has them again at the end.
+    pub(crate) fn close_range(
+        &self,
+        from: usize,
+        to: usize,
+        lo: usize,
+        hi: usize,
+        forest: &mut Forest,
+        n: usize,
+        marks: &mut [u8; 256],
+    )
+        requires { OpenRange self.now.owners.now self.now.lefts.now self.now.rights.now self.now.count from to lo hi (tables forest.old) n marks.old }
+        ensures { ClosedRange self.now.owners.now self.now.lefts.now self.now.rights.now self.now.count lo hi (tables forest.old) (tables forest.new) n
+            marks.old marks.new }
+    {
+        if from == to {
+            return;
+        }
+        let mut a = from;
+        let mut b = lo;
+        let mut m = n;
+        while 1 < hi - b {
+            let mid = b + (hi - b) / 2;
+            let cut = self.first_from(a, to, mid);
+            // The first half is closed with the second joined, and is then joined itself.
+            let k = self.join_records(cut, to, forest, m);
+            self.close_range(a, cut, b, mid, forest, k, marks);
+            forest.undo(m, k);
+            m = self.join_records(a, cut, forest, m);
+            a = cut;
+            b = mid;
+        }
+        self.mark_one(a, to, forest, b, marks);
+        forest.undo(n, m);
+    }
 }

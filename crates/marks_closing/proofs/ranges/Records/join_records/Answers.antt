@@ -1,18 +1,18 @@
 use Prim.Native.Nat.{◌-◌}
 use native.Mathlib.Omega.{arith}
 use Rattle.marks_closing.proofs.Runs.{adding-start, adding-next, adding-end, adding-room}
-use Rattle.marks_closing.proofs.ranges.join_records.Goals as goal
+use Rattle.marks_closing.proofs.ranges.Records.join_records.Goals as goal
 
 pub loop-k-init : goal.loop-k-init
 loop-k-init c =
-    (omega arith, omega arith, adding-start c.args.lefts.now c.args.rights.now c.args.from c.requires.2)
+    (omega arith, omega arith, adding-start c.args.self.now.lefts.now c.args.self.now.rights.now c.args.from c.requires.2)
 
-pub bounds-lefts-k : goal.bounds-lefts-k
-bounds-lefts-k c =
+pub bounds-self-k : goal.bounds-self-k
+bounds-self-k c =
     omega (arith, c.requires.1.lefts-are)
 
-pub bounds-rights-k : goal.bounds-rights-k
-bounds-rights-k c =
+pub bounds-self-k-in-loop-k : goal.bounds-self-k-in-loop-k
+bounds-self-k-in-loop-k c =
     omega (arith, c.requires.1.rights-are)
 
 pub join-m-requires : goal.join-m-requires
@@ -31,10 +31,10 @@ loop-k-preserved c =
     let inv = c.loop-k.invariant in (
       omega (arith, inv.0),
       omega (arith, c.loop-k-test.true),
-      adding-next a.lefts.now a.rights.now a.from inv.0 inv.2 c.join-m.ensures,
+      adding-next a.self.now.lefts.now a.self.now.rights.now a.from inv.0 inv.2 c.join-m.ensures,
     )
 
 pub returns : goal.returns
 returns c =
     let a = c.args in
-    adding-end a.lefts.now a.rights.now a.from (omega arith) c.loop-k.invariant.2
+    adding-end a.self.now.lefts.now a.self.now.rights.now a.from (omega arith) c.loop-k.invariant.2

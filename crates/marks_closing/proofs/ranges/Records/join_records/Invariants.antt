@@ -1,11 +1,11 @@
 use Prim.Native.Nat.{◌-◌, ◌≤◌}
 use Rattle.marks_closing.specs.Tables.{tables}
 use Rattle.marks_closing.specs.Log.{GrownForest, adding}
-use Rattle.marks_closing.proofs.ranges.join_records.Given as goal
+use Rattle.marks_closing.proofs.ranges.Records.join_records.Given as goal
 
 -- the records before k are joined
 abbrev pub invariant-loop-k : goal.invariant-loop-k
 invariant-loop-k l =
     (l.from ≤ l.k) × (l.k ≤ l.to)
-    × GrownForest (adding l.lefts l.rights l.from (l.k - l.from)) (l.k - l.from) (tables l.initial.forest) l.n
+    × GrownForest (adding l.self.lefts.now l.self.rights.now l.from (l.k - l.from)) (l.k - l.from) (tables l.initial.forest) l.n
     (tables l.forest) l.m

@@ -2,7 +2,7 @@ use Rattle.std.proofs.Common.{arith}
 use Rattle.marks_closing.specs.Ranges.{other_edges}
 use Rattle.marks_closing.proofs.Halves.{restored-back, open-left, done_none, ready-left}
 use Rattle.marks_closing.proofs.Turns.{turning-start, turning-next, turning-end}
-use Rattle.marks_closing.proofs.ranges.+close_range.Goals as goal
+use Rattle.marks_closing.proofs.ranges.Records.+close_range.Goals as goal
 
 -- no record in the range
 pub returns-then-from-to : goal.returns-then-from-to
@@ -36,6 +36,7 @@ loop-b-preserved t c =
 pub returns : goal.returns
 returns t c =
     let a = c.args in
+    let r = a.self.now in
     let o = c.loop-b.invariant.opened in
     turning-end c.requires c.loop-b.invariant (omega (arith, c.loop-b-test.false, o.range.some))
-    (c.mark_one.ensures (other_edges a.owners.now a.lefts.now a.rights.now a.count c.loop-b.a a.to) o.forest) c.undo-2.ensures
+    (c.mark_one.ensures (other_edges r.owners.now r.lefts.now r.rights.now r.count c.loop-b.a a.to) o.forest) c.undo-2.ensures

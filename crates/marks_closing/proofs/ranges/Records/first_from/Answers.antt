@@ -2,7 +2,7 @@ use mathlib.Core.Path.{◌≡◌}
 use Rattle.std.proofs.Common.{rules, ltb}
 use Rattle.std.proofs.lemmas.List.Sorted.{IsPartitionPoint-from_clause}
 use Rattle.marks_closing.proofs.Runs.{owners-parted, owners_split}
-use Rattle.marks_closing.proofs.ranges.first_from.Goals as goal
+use Rattle.marks_closing.proofs.ranges.Records.first_from.Goals as goal
 
 pub returns : goal.returns
 returns c =
