@@ -1,13 +1,46 @@
 // The walk in depth, from every record.
-ghost use Rattle.std.specs.Prelude.{◌≡◌, ℕ, ◌+◌, ◌≤◌, ◌<◌, length};
+ghost use Rattle.std.specs.Prelude.{◌≡◌, List, ℕ, ◌+◌, ◌≤◌, ◌<◌, length, MatchOption};
 ghost use Rattle.lists.specs.Rows.{at};
 ghost use Rattle.graph.specs.Records.{records_in};
 ghost use Rattle.serial_walk.specs.Marks.{bridge_marks};
 ghost use Rattle.graph.specs.Slices.{Graph, Owners};
-ghost use Rattle.serial_walk.specs.Slices.{Sized, IncidenceLists, Between};
+ghost use Rattle.serial_walk.specs.Walk.{RecordTouches};
+ghost use Rattle.serial_walk.specs.Slices.{Sized, IncidenceLists, Hand, Chained, LeadsOn, Between};
 
-use crate::frame::{after, opened, other_end};
+use crate::frame::{Frame, after, opened, other_end};
 use crate::stack::{enter, leave, load, save, time_of};
+
+// Looks at the frame's records from its next one on. Gives the frame at the first that leads to a region that is not found, and that region, or the frame
+// behind its last record.
+fn scan(
+    lefts: &[u32],
+    rights: &[u32],
+    count: u32,
+    left_nexts: &[u32],
+    right_nexts: &[u32],
+    disc: &[u32],
+    mut f: Frame,
+) -> (Frame, Option<u32>)
+    requires chained { Chained count lefts.now rights.now disc.now left_nexts.now right_nexts.now }
+    requires touching { f.next < count → RecordTouches (at lefts.now) (at rights.now) f.next f.region }
+    ensures hand { (owners stack parents nexts lows marks : List ℕ) (r top time : ℕ)
+        → Hand count owners lefts.now rights.now disc.now stack parents nexts lows marks r top time f
+        → Hand count owners lefts.now rights.now disc.now stack parents nexts lows marks r top time result.0 }
+    ensures end { MatchOption result.1 (count ≤ result.0.next) (λ w. LeadsOn count lefts.now rights.now disc.now result.0 w) }
+{
+    while f.next < count {
+        if f.next != f.parent {
+            let w = other_end(lefts, rights, f);
+            let d = time_of(disc, w);
+            if d == 0 {
+                return (f, Some(w));
+            }
+            f = f.lowered(d);
+        }
+        f = f.next_record(after(lefts, left_nexts, right_nexts, f));
+    }
+    (f, None)
+}
 
 // Walks all that is connected with root, an end of record r that was not found before, and marks the bridges there. Gives the time of the last region found.
 fn walk(
@@ -45,47 +78,22 @@ fn walk(
         opened(heads, root, count, time),
     );
     let mut h: usize = 1;
-    'walk: while 0 < h {
+    while 0 < h {
         let top = h - 1;
-        let mut f = load(stack, parents, nexts, lows, top);
-        let mut w = root;
-        let j = loop {
-            if count <= f.next {
-                break count;
-            }
-            if f.next != f.parent {
-                w = other_end(lefts, rights, f);
-                let d = time_of(disc, w);
-                if d == 0 {
-                    break f.next;
-                }
-                f = f.lowered(d);
-            }
-            f = f.next_record(after(lefts, left_nexts, right_nexts, f));
-        };
-        if j < count {
-            save(
-                nexts,
-                lows,
-                top,
-                f.next_record(after(lefts, left_nexts, right_nexts, f)),
-            );
+        let start = load(stack, parents, nexts, lows, top);
+        let (f, found) = scan(lefts, rights, count, left_nexts, right_nexts, disc, start);
+        if let Some(w) = found {
+            let next = after(lefts, left_nexts, right_nexts, f);
+            save(nexts, lows, top, f.next_record(next));
             time += 1;
-            enter(
-                disc,
-                stack,
-                parents,
-                nexts,
-                lows,
-                h,
-                opened(heads, w, j, time),
-            );
+            let below = opened(heads, w, f.next, time);
+            enter(disc, stack, parents, nexts, lows, h, below);
             h += 1;
-            continue 'walk;
+            continue;
         }
         if top == 0 {
             h = 0;
-            continue 'walk;
+            continue;
         }
         leave(disc, stack, lows, owners, marks, top - 1, f);
         h = top;
