@@ -2,15 +2,13 @@
 use mathlib.Core.Path.{◌≡◌, sym, ◌∙◌, ap}
 use mathlib.Core.Bool.{Bool, true, false, not, ◌&&◌}
 use mathlib.Core.List.{List}
-use Prim.Native.Nat.{ℕ, suc, ◌+◌, ◌≤◌}
+use Prim.Native.Nat.{ℕ, suc, ◌+◌}
 use native.Mathlib.Numerals.{add-one}
-use native.Mathlib.Omega.{arith}
-use borrow.Author.Tests.{eqb-true, leb-true, not-true, not-false}
+use borrow.Author.Tests.{not-true, not-false}
 use lib.Dec.{eqb, leb}
 use lib.Ieee.{Float, le}
 use lib.ListN.{length, get_or}
 use Rattle.order.proofs.Bools.{and_parts}
-use Rattle.order.proofs.Keep.{keep-length}
 use Rattle.areas.specs.Spans.{span_in}
 use Rattle.serial_links.specs.Limits.{Limits}
 use Rattle.length.specs.declared.Length.{Length}

@@ -32,9 +32,6 @@ pick_yes c high low e = let h = eq-eqb c high e in rw h
 pub pick_no : (c high low : ℕ) → (c ≡ high → ⊥) → c ≡ cond (eqb c high) low c
 pick_no c high low n = let h = ne_eqb c high n in rw h
 
-pub filled_none : {f : ℕ → ℕ} {xs : List ℕ} → length xs ≡ 256 → FirstAre f 0 xs
-filled_none e = record { size = e; each = λ i l. absurd (omega arith) }
-
 pub filled_next : {f : ℕ → ℕ} {i : ℕ} {xs : List ℕ} (v : ℕ) → FirstAre f i xs → i < 256 → v ≡ f i → FirstAre f (i + 1) (set xs i v)
 filled_next {f} {i} {xs} v p l e = record {
   size = length-set xs i v ∙ p.size;
@@ -49,16 +46,10 @@ filled-as p e = record { size = p.size; each = λ i l. p.each i l ∙ e i l }
 pub filled-all : {f : ℕ → ℕ} {k : ℕ} {xs : List ℕ} → FirstAre f k xs → 256 ≤ k → FirstAre f 256 xs
 filled-all p n = record { size = p.size; each = λ i l. p.each i (omega arith) }
 
-pub filled-upto : {f : ℕ → ℕ} {k n : ℕ} {xs : List ℕ} → FirstAre f k xs → n ≤ k → FirstAre f n xs
-filled-upto p h = record { size = p.size; each = λ i l. p.each i (omega arith) }
-
 -- an array whose first i numbers are changed
 pub record Mapped (g : ℕ → ℕ) (i : ℕ) (xs ys : List ℕ) : Type 0 where
   pub done : FirstAre (λ j. g (at xs j)) i ys
   pub left : (j : ℕ) → i ≤ j → at ys j ≡ at xs j
-
-pub mapped-none : {g : ℕ → ℕ} {xs : List ℕ} → length xs ≡ 256 → Mapped g 0 xs xs
-mapped-none e = record { done = filled_none e; left = λ j l. refl }
 
 pub mapped_next : {g : ℕ → ℕ} {i : ℕ} {xs ys : List ℕ} (v : ℕ) → Mapped g i xs ys → i < 256 → v ≡ g (at ys i) → Mapped g (i + 1) xs (set ys i v)
 mapped_next {g} {i} {xs} {ys} v p l e = record {

@@ -49,15 +49,3 @@ module _ (limits : Limits) (n : ℕ) (own bits lowers highers regions firsts sec
 
 pub goes-serial : (s f i : ℕ) → (s ≡ 256 → ⊥) → s ≡ goes_to s f i
 goes-serial s f i n = let h = ne_eqb s 256 n in rw h
-
-pub goes_flat : (s f i : ℕ) → s ≡ 256 → (f ≡ 256 → ⊥) → f ≡ goes_to s f i
-goes_flat s f i e n =
-    let h = eq-eqb s 256 e in
-    let k = ne_eqb f 256 n in
-    rw (h, k)
-
-pub goes_self : (s f i : ℕ) → s ≡ 256 → f ≡ 256 → i ≡ goes_to s f i
-goes_self s f i e q =
-    let h = eq-eqb s 256 e in
-    let k = eq-eqb f 256 q in
-    rw (h, k)

@@ -1,27 +1,19 @@
 -- A group that is kept by its first sixteen ranks is judged as a whole.
 use mathlib.Core.Path.{◌≡◌, sym, ◌∙◌, ap}
-use mathlib.Core.Bool.{Bool, true, false, cond, not, ◌&&◌}
+use mathlib.Core.Bool.{Bool, true, false, cond, not}
 use mathlib.Core.List.{List}
 use Prim.Native.Nat.{ℕ, ◌≤◌, ◌<◌}
 use native.Mathlib.Omega.{arith}
 use borrow.Author.Tests.{not-true, not-false}
-use lib.Ieee.{le}
-use lib.ListN.{length, get_or}
+use lib.ListN.{length}
 use Rattle.lists.specs.Rows.{at}
 use Rattle.order.specs.Lists.{keep, up_from}
-use Rattle.order.proofs.Bools.{by-test, clash, and_parts}
+use Rattle.order.proofs.Bools.{by-test, clash}
 use Rattle.order.proofs.Keep.{keep-mem, keep-length}
 use Rattle.order.proofs.Numbers.{up_mem, up-length}
-use Rattle.areas.specs.Spans.{span_in}
-use Rattle.serial_links.specs.Limits.{Limits}
-use Rattle.serial_links.specs.Geometry.{centre_distance}
-use Rattle.order.specs.Tests.{every}
-use Rattle.serial_groups.specs.Flat.{least_flat_spans}
 use Rattle.serial_plan.specs.declared.few.Few.{Few}
 use Rattle.serial_plan.specs.Few.{few_of, few_list}
-use Rattle.serial_plan.specs.Arrays.{is_on, LinkRanks}
-use Rattle.serial_plan.specs.Shape.{ends_in, chain_in, path_in, all_alike_in}
-use Rattle.serial_plan.specs.Told.{serial_in, flat_in}
+use Rattle.serial_plan.specs.Arrays.{LinkRanks}
 use Rattle.serial_plan.specs.Rules.{Sized}
 use Rattle.serial_plan.specs.Fitting.{RankFits, LinkFits, WidthFits, RanksFit, Links, Widths, Safe}
 use Rattle.serial_plan.proofs.FewLaws.{listed-held}

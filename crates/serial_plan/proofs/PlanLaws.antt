@@ -54,10 +54,6 @@ module _ {limits : Limits} {own bits lowers highers regions firsts seconds marks
         (λ a b c u v w t. each_of a b c u v w t linked bridged passed inner) few some ranked s f p told;
   }
 
-  pub plan-none : {into : List ℕ} → FirstAre (λ i. i) 256 into → {n : ℕ} → n ≡ 0
-      → PlanOf limits n own bits lowers highers regions firsts seconds count marks passing flat into
-  plan-none p {n} e = record { whole = p.size; each = λ dirs g anchors l told linked bridged passed inner i h. absurd (omega arith) }
-
 -- without links every rank stays
 unlinked : {dirs : List ℕ} {g : Grid} {anchors : List WalkPosition} {l : List Item} {regions firsts seconds : List ℕ} {count : ℕ}
     → LinkTable dirs g anchors l regions firsts seconds count → count ≡ 0 → links dirs g anchors l ≡ []

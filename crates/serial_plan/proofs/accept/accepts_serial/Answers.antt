@@ -6,7 +6,7 @@ use Rattle.areas.specs.Spans.{span_in}
 use Rattle.serial_links.specs.Geometry.{centre_length}
 use Rattle.serial_links.specs.HeldLimits.{limits_of}
 use Rattle.serial_plan.specs.Fitting.{RankFits}
-use Rattle.serial_plan.specs.Few.{few_at, few_list}
+use Rattle.serial_plan.specs.Few.{few_list}
 use Rattle.serial_plan.specs.SmallGroups.{path-sizes}
 use Rattle.serial_plan.proofs.ShapeLaws.{listed-length, held_first, held-second}
 use Rattle.serial_plan.proofs.ValueLaws.{both}

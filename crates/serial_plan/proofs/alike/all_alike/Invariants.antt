@@ -1,4 +1,4 @@
-use Prim.Native.Nat.{◌-◌, ◌≤◌}
+use Prim.Native.Nat.{◌≤◌}
 use Rattle.serial_links.specs.HeldLimits.{limits_of}
 use Rattle.order.specs.Tests.{every}
 use Rattle.serial_plan.specs.Shape.{alike_in}

@@ -1,5 +1,4 @@
 use mathlib.Core.Path.{sym, ◌∙◌, ap, subst}
-use Prim.Native.Nat.{◌-◌}
 use native.Mathlib.Omega.{arith}
 use Rattle.serial_sums.proofs.PartLaws.{parts-start, parts-count, parts_next}
 use Rattle.serial_plan.specs.Fitting.{LinkFits}
@@ -11,10 +10,6 @@ pub loop-j-init : goal.loop-j-init
 loop-j-init c =
     let start = c.args in
     (omega arith, parts-start (gap_at start.t.now.firsts.now start.t.now.seconds.now start.t.now.own.now start.links) c.none-gaps.ensures)
-
-pub index-k-requires : goal.index-k-requires
-index-k-requires c =
-    (c.requires.1 c.loop-j.j).below
 
 pub gap-requires : goal.gap-requires
 gap-requires c =

@@ -1,5 +1,5 @@
 use mathlib.Core.List.{map}
-use Prim.Native.Nat.{◌-◌, ◌≤◌}
+use Prim.Native.Nat.{◌≤◌}
 use Rattle.order.specs.Lists.{up_from}
 use Rattle.serial_sums.specs.Parts.{PartsOf}
 use Rattle.serial_plan.proofs.SumLaws.{gap_at}

@@ -1,4 +1,4 @@
-use Prim.Native.Nat.{◌-◌, ◌≤◌}
+use Prim.Native.Nat.{◌≤◌}
 use Rattle.serial_plan.specs.Arrays.{link_in_part}
 use Rattle.serial_plan.proofs.FewLaws.{Picked}
 use Rattle.serial_plan.proofs.gather.links_of.Given as goal

@@ -1,6 +1,5 @@
 use mathlib.Core.Path.{refl}
 use native.Mathlib.Omega.{arith}
-use Rattle.serial_plan.specs.Arrays.{in_part}
 use Rattle.serial_plan.proofs.FewLaws.{picked-start, picked-room, picked_next, picked-whole}
 use Rattle.serial_plan.proofs.gather.ranks_of.Goals as goal
 

@@ -1,6 +1,4 @@
-use Prim.Native.Nat.{◌-◌}
 use native.Mathlib.Omega.{arith}
-use Rattle.serial_plan.specs.Into.{goes_to}
 use Rattle.serial_plan.proofs.ArrayLaws.{filled_next}
 use Rattle.serial_plan.proofs.into.combine.Goals as goal
 

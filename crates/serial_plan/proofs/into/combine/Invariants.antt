@@ -1,4 +1,4 @@
-use Prim.Native.Nat.{◌-◌, ◌≤◌}
+use Prim.Native.Nat.{◌≤◌}
 use Rattle.lists.specs.Rows.{at}
 use Rattle.serial_plan.specs.Arrays.{FirstAre}
 use Rattle.serial_plan.specs.Into.{goes_to}

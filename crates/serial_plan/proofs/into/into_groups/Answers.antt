@@ -1,15 +1,6 @@
-use Prim.Native.Nat.{◌-◌}
 use native.Mathlib.Omega.{arith}
 use Rattle.serial_plan.proofs.ArrayLaws.{filled_next}
 use Rattle.serial_plan.proofs.into.into_groups.Goals as goal
-
-pub one_into-requires : goal.one_into-requires
-one_into-requires g c =
-    (c.requires.0, c.requires.1, omega (arith, c.loop-i-test.true, c.requires.1.fit.few), c.loop-i.invariant.1)
-
-pub bounds-into-i : goal.bounds-into-i
-bounds-into-i g c =
-    omega (arith, c.loop-i-test.true, c.requires.1.fit.few, c.loop-i.invariant.1.size)
 
 pub loop-i-preserved : goal.loop-i-preserved
 loop-i-preserved g c = (

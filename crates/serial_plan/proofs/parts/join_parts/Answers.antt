@@ -1,4 +1,3 @@
-use Prim.Native.Nat.{◌-◌}
 use Rattle.serial_plan.proofs.ArrayLaws.{mapped_next, mapped-all, join-as}
 use Rattle.serial_plan.proofs.parts.join_parts.Goals as goal
 

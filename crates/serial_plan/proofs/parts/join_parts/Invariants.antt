@@ -1,5 +1,5 @@
 use mathlib.Core.Bool.{cond}
-use Prim.Native.Nat.{ℕ, ◌-◌}
+use Prim.Native.Nat.{ℕ}
 use lib.Dec.{eqb}
 use Rattle.serial_plan.proofs.ArrayLaws.{Mapped}
 use Rattle.serial_plan.proofs.parts.join_parts.Given as goal

@@ -1,4 +1,4 @@
-use Prim.Native.Nat.{◌-◌, ◌≤◌, ◌<◌}
+use Prim.Native.Nat.{◌-◌, ◌<◌}
 use native.Mathlib.Omega.{arith}
 use Rattle.serial_plan.proofs.ArrayLaws.{marks-start, marks-next, marks-end}
 use Rattle.serial_plan.proofs.parts.mark_joined.Goals as goal

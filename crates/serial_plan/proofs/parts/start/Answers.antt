@@ -1,5 +1,4 @@
 use mathlib.Core.Path.{refl}
-use Prim.Native.Nat.{◌-◌}
 use Rattle.serial_plan.proofs.ArrayLaws.{filled_next}
 use Rattle.serial_plan.proofs.parts.start.Goals as goal
 

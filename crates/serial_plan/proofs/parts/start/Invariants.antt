@@ -1,4 +1,3 @@
-use Prim.Native.Nat.{◌-◌}
 use Rattle.serial_plan.specs.Arrays.{FirstAre}
 use Rattle.serial_plan.proofs.parts.start.Given as goal
 

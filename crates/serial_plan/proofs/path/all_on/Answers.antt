@@ -1,5 +1,4 @@
 use mathlib.Core.Path.{refl, ap}
-use Prim.Native.Nat.{◌-◌}
 use native.Mathlib.Omega.{arith}
 use Rattle.serial_plan.specs.Arrays.{is_on}
 use Rattle.serial_plan.specs.Few.{few_at}

@@ -1,4 +1,4 @@
-use Prim.Native.Nat.{◌-◌, ◌≤◌}
+use Prim.Native.Nat.{◌≤◌}
 use Rattle.serial_plan.specs.Arrays.{is_on}
 use Rattle.serial_plan.specs.Few.{few_at}
 use Rattle.serial_plan.proofs.ShapeLaws.{Each}

@@ -12,10 +12,6 @@ use Rattle.serial_plan.proofs.path.group_end_nodes.Goals as goal
 pub loop-j-init : goal.loop-j-init
 loop-j-init c = (omega arith, picked-start c.none-found.ensures)
 
-pub links_at-near-requires : goal.links_at-near-requires
-links_at-near-requires c =
-    (c.requires.1, c.requires.2)
-
 pub with-found-requires : goal.with-found-requires
 with-found-requires c =
     picked-room c.loop-j.invariant.1 c.requires.0

@@ -1,5 +1,4 @@
 use mathlib.Core.Path.{refl, ◌∙◌, ap}
-use Prim.Native.Nat.{◌-◌}
 use native.Mathlib.Omega.{arith}
 use Rattle.serial_plan.specs.Arrays.{joins_at}
 use Rattle.serial_plan.proofs.FewLaws.{noted-start, noted-room, noted-next}

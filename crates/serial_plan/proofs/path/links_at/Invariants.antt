@@ -1,4 +1,4 @@
-use Prim.Native.Nat.{◌-◌, ◌≤◌}
+use Prim.Native.Nat.{◌≤◌}
 use Rattle.serial_plan.specs.Arrays.{joins_at}
 use Rattle.serial_plan.specs.Few.{few_at}
 use Rattle.serial_plan.proofs.FewLaws.{Noted}

@@ -21,10 +21,6 @@ loop-j-init c =
           ranks.count,
     )
 
-pub links_at-near-requires : goal.links_at-near-requires
-links_at-near-requires c =
-    (c.requires.0, c.requires.1)
-
 pub loop-j-preserved : goal.loop-j-preserved
 loop-j-preserved c =
     let seconds = c.args.t.now.seconds.now in

@@ -12,10 +12,6 @@ use Rattle.serial_plan.proofs.retain.eligible.Goals as goal
 pub loop-j-init : goal.loop-j-init
 loop-j-init c = (omega arith, picked-start c.none-found.ensures)
 
-pub index-requires : goal.index-requires
-index-requires c =
-    (c.requires.1 (c.loop-j.j - 1)).below
-
 pub is_eligible-requires : goal.is_eligible-requires
 is_eligible-requires c =
     subst (WidthFits c.args.bits.now) (sym c.index.ensures.0) (c.requires.1 (c.loop-j.j - 1))

@@ -1,4 +1,4 @@
-use Prim.Native.Nat.{◌-◌, ◌≤◌}
+use Prim.Native.Nat.{◌≤◌}
 use Rattle.serial_links.specs.HeldLimits.{limits_of}
 use Rattle.serial_plan.specs.Shape.{fine_in}
 use Rattle.serial_plan.specs.Few.{few_at}

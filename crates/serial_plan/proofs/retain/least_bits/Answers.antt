@@ -18,10 +18,6 @@ loop-j-init c =
       subst (λ (i : ℕ). at bits i ≤ 0x40D0_0000_0000_0000) (sym c.index.ensures.0) (c.requires.1 (ranks.count - 1)).fits,
     )
 
-pub index-requires-in-loop-j : goal.index-requires-in-loop-j
-index-requires-in-loop-j c =
-    (c.requires.1 (c.loop-j.j - 1)).below
-
 pub lesser-least-requires : goal.lesser-least-requires
 lesser-least-requires c = (
   subst (λ (i : ℕ). at c.args.bits.now i ≤ 0x40D0_0000_0000_0000) (sym c.index-in-loop-j.ensures.0)

@@ -1,4 +1,4 @@
-use Prim.Native.Nat.{◌-◌, ◌≤◌}
+use Prim.Native.Nat.{◌≤◌}
 use Rattle.lists.specs.Rows.{at}
 use Rattle.length.specs.Total.{total_le}
 use Rattle.serial_plan.specs.Few.{few_at}

@@ -18,10 +18,6 @@ loop-j-init c =
       subst (RankFits own) (sym c.index-best.ensures.0) (c.requires.3 (among.count - 1)),
     )
 
-pub index-requires : goal.index-requires
-index-requires c =
-    (c.requires.3 (c.loop-j.j - 1)).below
-
 pub nearer-best-requires : goal.nearer-best-requires
 nearer-best-requires c = (
   c.requires.0,

@@ -1,4 +1,3 @@
-use Prim.Native.Nat.{◌-◌}
 use Rattle.serial_plan.specs.Shape.{nearer_in}
 use Rattle.serial_plan.specs.Fitting.{RankFits}
 use Rattle.serial_plan.specs.Few.{few_at, few_list}

@@ -6,10 +6,6 @@ use Rattle.serial_plan.proofs.ShapeLaws.{kept-slots}
 use Rattle.serial_plan.proofs.ValueLaws.{eligible-as, retained-none, retained-some, positive}
 use Rattle.serial_plan.proofs.retain.representative.Goals as goal
 
-pub index-requires : goal.index-requires
-index-requires c =
-    (c.requires.2 0).below
-
 pub returns-then-among-eq0 : goal.returns-then-among-eq0
 returns-then-among-eq0 c =
     let bits = c.args.bits.now in

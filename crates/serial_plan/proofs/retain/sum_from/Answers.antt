@@ -1,5 +1,5 @@
 use mathlib.Core.Path.{sym, ◌∙◌, ap, subst}
-use Prim.Native.Nat.{ℕ, ◌+◌, ◌-◌}
+use Prim.Native.Nat.{ℕ, ◌+◌}
 use Rattle.areas.specs.Spans.{span_in}
 use Rattle.serial_links.specs.Geometry.{centre_length}
 use Rattle.serial_sums.proofs.SumSteps.{SummedLengths, lengths-start, lengths-next}
@@ -15,10 +15,6 @@ loop-j-init c =
     let own = c.args.own.now in
     lengths-start (distance_at own c.args.i c.args.ranks) c.args.ranks.count c.requires.0
     (c.rank_distance-total.ensures ∙ ap (λ (k : ℕ). centre_length (span_in own c.args.i) (span_in own k)) c.index.ensures.0)
-
-pub index-requires-in-loop-j : goal.index-requires-in-loop-j
-index-requires-in-loop-j c =
-    (c.requires.1 c.loop-j.j).below
 
 pub rank_distance-requires : goal.rank_distance-requires
 rank_distance-requires c =

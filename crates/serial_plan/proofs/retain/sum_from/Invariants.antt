@@ -1,4 +1,3 @@
-use Prim.Native.Nat.{◌-◌}
 use Rattle.serial_sums.proofs.SumSteps.{SummedLengths}
 use Rattle.serial_plan.proofs.SumLaws.{distance_at}
 use Rattle.serial_plan.proofs.retain.sum_from.Given as goal

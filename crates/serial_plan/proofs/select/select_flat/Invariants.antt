@@ -1,5 +1,5 @@
 use mathlib.Core.Bool.{cond}
-use Prim.Native.Nat.{◌-◌, ◌≤◌}
+use Prim.Native.Nat.{◌≤◌}
 use Rattle.lists.specs.Rows.{at}
 use Rattle.serial_links.specs.HeldLimits.{limits_of}
 use Rattle.serial_plan.specs.Arrays.{FirstAre}
