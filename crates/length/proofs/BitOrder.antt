@@ -1,15 +1,15 @@
 -- The bits of a number that is not negative, as a whole number, are ordered as the numbers are.
-use mathlib.Core.Path.{◌≡◌, refl, sym, ◌∙◌, ap, subst}
+use mathlib.Core.Path.{◌≡◌, sym, ◌∙◌, ap, subst}
 use mathlib.Core.Logic.{◌↔◌, by_cases}
 use mathlib.Core.Bool.{Bool, true, false, cond, true≢false}
 use Prim.Native.Nat.{ℕ, zero, suc, ◌+◌, ◌*◌, ◌/◌, ◌%◌, ◌^◌, ◌≤◌, ◌<◌}
-use native.Mathlib.Nat.{mul-le-mul, mul-le-mul_right, mul-lt-mul_of_pos_right, lt_of_lt_of_le, lt_of_mul-lt-mul_right, le_of_eq, le_trans, mul-pos}
+use native.Mathlib.Nat.{mul-le-mul, mul-le-mul_right, mul-lt-mul_of_pos_right, lt_of_lt_of_le, le_of_eq, le_trans, mul-pos}
 use native.Mathlib.Omega.{arith}
 use native.Mathlib.Decide.{dec_lt, dec_le}
 use borrow.Author.Tests.{ne_eqb, eq-eqb, lt-leb, le-leb}
 use lib.Dec.{T, leb, eqb}
 use lib.Pow.{pow-add, pow_pos, pow_mono}
-use lib.Ieee.{Float, nan, inf, fin, binary64, prec, low, le, of_bits, of_fields, odd}
+use lib.Ieee.{Float, nan, inf, fin, binary64, prec, low, le, of_bits, of_fields}
 use lib.Ieee.Bits.{is_true}
 use lib.Ieee.Exact.{HasValue, odd_sign}
 use lib.Ieee.Order.{le_of_values}

@@ -1,5 +1,4 @@
 use Rattle.answer_firsts.proofs.Grows.{covers-start, covers-next, covers-end}
-use Prim.Native.Nat.{◌-◌}
 use native.Mathlib.Omega.{arith}
 use Rattle.answer_firsts.proofs.finding.add_places.Goals as goal
 

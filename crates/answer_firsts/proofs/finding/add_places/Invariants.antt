@@ -1,5 +1,4 @@
 use Rattle.answer_firsts.specs.Links.{Covers}
-use Prim.Native.Nat.{◌-◌, ◌≤◌}
 use Rattle.answer_firsts.proofs.finding.add_places.Given as goal
 
 abbrev pub invariant-loop-i : goal.invariant-loop-i

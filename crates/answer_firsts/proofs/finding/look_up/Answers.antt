@@ -1,7 +1,6 @@
-use Rattle.answer_sorting.specs.Keys.{key_in}
 use Rattle.answer_firsts.proofs.Walks.{head_small, walking_start, walking-within, walking-most, walking_on, walking-next, walk-found, walk-missing}
-use mathlib.Core.Path.{◌≡◌, refl, ◌∙◌, ap}
-use Prim.Native.Nat.{ℕ, ◌-◌}
+use mathlib.Core.Path.{refl}
+use Prim.Native.Nat.{◌-◌}
 use native.Mathlib.Omega.{arith}
 use Rattle.answer_firsts.proofs.finding.look_up.Goals as goal
 
