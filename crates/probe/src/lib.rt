@@ -53,11 +53,7 @@ fn copy(out: &mut [u8], part: &[u8]) -> usize
     if out.len() < n {
         return n;
     }
-    let mut k: usize = 0;
-    while k < n {
-        out[k] = part[k];
-        k += 1;
-    }
+    out[..n].copy_from_slice(part);
     n
 }
 
