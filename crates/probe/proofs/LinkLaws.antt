@@ -1,12 +1,14 @@
 -- What the link function asks of a job that passed its checks, and what it tells.
 use mathlib.Core.Path.{◌≡◌, refl, sym, ◌∙◌, ap}
-use mathlib.Core.Bool.{true, not}
+use mathlib.Core.Bool.{Bool, true, false}
 use mathlib.Core.List.{List, ◌++◌, append_assoc}
 use Prim.Native.Nat.{ℕ, ◌+◌, ◌*◌, ◌≤◌, ◌<◌}
 use native.Mathlib.Omega.{arith}
 use lib.Dec.{T}
 use lib.Ieee.{Float, nan, inf, fin, eq, is_nan}
 use lib.ListN.{length, length-append}
+use Rattle.std.proofs.Common.{inl, inr}
+use Rattle.std.proofs.lemmas.Float.{le_refl, lt_irrefl, lt-or-eq, T_from_false}
 use Rattle.lists.proofs.Rows.{length-rows}
 use Rattle.wire.specs.Bytes.{u32_bytes, u64_bytes, splice}
 use Rattle.wire.proofs.Numbers.{length-bytes}
@@ -39,12 +41,20 @@ use Rattle.probe.specs.Regions.{cell_labels}
 use Rattle.probe.specs.Links.{float_bits, kind_of, transverse, longitudinal, four_bytes, side_of, link_bytes}
 use Rattle.probe.proofs.WritingLaws.{beside}
 
--- what is like itself is no NaN
-pub eq_number : (x : Float) → eq x x ≡ true → T (not (is_nan x))
+-- a NaN is unlike itself, and a number is like itself
+pub nan_unlike : (x : Float) → is_nan x ≡ true → eq x x ≡ false
 unfolding eq is_nan
-eq_number nan e = let z : ◌≡◌ {A = ℕ} 0 1 = cc in absurd (omega arith)
-eq_number (inf s) e = tt
-eq_number (fin s m d) e = tt
+nan_unlike nan e = refl
+nan_unlike (inf s) e = cc
+nan_unlike (fin s m d) e = cc
+
+is_true : (b : Bool) → T b → b ≡ true
+is_true true h = refl
+is_true false h = absurd h
+
+pub number_like : (x : Float) → is_nan x ≡ false → eq x x ≡ true
+number_like x e =
+    elim (lt-or-eq x x (le_refl x (T_from_false (is_nan x) e))) [ inl l ↦ absurd (lt_irrefl x l) | inr h ↦ is_true (eq x x) h ]
 
 -- the boundary at a place
 module _ {s : List ℕ} {h : Header} (d : Headed s h) (i at : ℕ) (a : at ≡ h.offsets.boundaries) (below : i < h.counts.boundaries) where

@@ -30,7 +30,6 @@ use Rattle.areas_partition.specs.Partitioned.{Partitioned}
 use Rattle.areas_partition.specs.declared.Partition.{Partition}
 use Rattle.results.specs.Rules.{grid_of}
 use Rattle.results.specs.Results.{own_ends}
-use Rattle.results.specs.Returns.{PairAnswer, many as over-limit, few as in-limit}
 use Rattle.analysis.specs.Plans.{OwnJob, OwnEnds}
 use Rattle.analysis.proofs.Headed.{headed-checked, count-is}
 use Rattle.analysis.proofs.OwnEnds.{own-map, own-count, own-labels, own-records}
@@ -105,12 +104,6 @@ module _ {dirs : List ℕ} {g : Grid} {ends before work removed separated owners
       (q.pairs-are few)
       ∙ ap (λ (x : List ℕ). words (area_count dirs g ss ∷ length (records dirs g ss) ∷ []) ++ (x ++ records_from owners lefts rights p.pairs)) c
       ∙ ap (λ (x : List ℕ). words (area_count dirs g ss ∷ length (records dirs g ss) ∷ []) ++ (flat_map (counts_of dirs g ss) ss ++ x)) r
-
--- 13, and pairs within the limit
-module _ {count pairs : ℕ} {bytes out : List ℕ} {number detail : ℕ} where
-  pub told-many : PairAnswer pairs number detail → 0 < number → PartitionBytes count pairs bytes out out number detail
-  told-many (over-limit h p q) l = many h p q refl
-  told-many (in-limit h p q) l = absurd (omega arith)
 
 -- a partition by the spans in the array tells what one by the boundaries' own ends finds
 module _ {s : List ℕ} {h : Header} {work : List ℕ} (m : OwnJob s h work) {n count : ℕ} (e : n ≡ h.counts.width * h.counts.height)

@@ -71,9 +71,6 @@ place-ranked j place h =
 
 -- one word more
 module _ {order : List ℕ} {goes : ℕ → ℕ} {n : ℕ} where
-  pub words-start : (out : List ℕ) → Words order goes n 0 out out
-  words-start out = record { each = λ i h. absurd (omega arith); rest = refl; long = refl }
-
   pub words-next : {k : ℕ} {out e f : List ℕ} (x v : ℕ) → PermutationOf order n → Words order goes n k out e → k < n → 4 * n ≤ length out → x ≡ get_or order k 0
       → v ≡ goes k
       → f ≡ splice e (4 * x) (u32_bytes v) → Words order goes n (k + 1) out f
@@ -113,9 +110,6 @@ module _ {order : List ℕ} {goes : ℕ → ℕ} {n : ℕ} where
           (λ l. splice-after e place (u32_bytes v) fits (4 * get_or order i 0) 4
           (let d = o.apart i k m h in omega (arith, four, by_cases (ℕ_discrete (get_or order i 0) (get_or order k 0)) (λ x. absurd (d x)) (λ x. x))))
           ∙ w.each i m)
-
-  pub words-end : {k : ℕ} {out e : List ℕ} → n ≤ k → Words order goes n k out e → Words order goes n n out e
-  words-end h w = record { each = λ i l. w.each i (omega arith); rest = w.rest; long = w.long }
 
 -- a boundary goes into one of the job's
 -- a group of source document 000 has few spans

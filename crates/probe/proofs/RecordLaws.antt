@@ -1,15 +1,12 @@
 -- Records read one by one, and what the bridge walk and marking ask of them.
-use mathlib.Core.Path.{◌≡◌, refl, sym, ◌∙◌, ap}
-use mathlib.Core.Logic.{by_cases}
+use mathlib.Core.Path.{◌≡◌, refl, ◌∙◌, ap}
 use mathlib.Core.Bool.{Bool, true, false, ◌&&◌}
 use mathlib.Core.List.{List, ◌++◌}
 use Prim.Native.Nat.{ℕ, zero, suc, ◌+◌, ◌*◌, ◌-◌, ◌≤◌, ◌<◌}
 use native.Mathlib.Omega.{arith}
-use native.Mathlib.Decide.{ℕ_discrete}
 use borrow.Author.Tests.{ltb-true, leb-true, le-ltb}
 use lib.Dec.{ltb, leb}
-use lib.ListN.{length, get_or, set, drop, replicate, length-set, length-replicate, get_or-replicate, get_or-append}
-use lib.Seq.{get_or-set_same, get_or-set_other}
+use lib.ListN.{length, get_or, set, drop, replicate, length-replicate, get_or-replicate, get_or-append}
 use Rattle.lists.proofs.Rows.{length-rows, rows_same}
 use Rattle.wire.specs.Bytes.{splice, u32_at}
 use Rattle.wire.proofs.Parts.{length-splice}
@@ -21,37 +18,9 @@ use Rattle.marks_closing.specs.Ranges.{RisingOwners}
 use Rattle.serial_bridges.specs.Names.{Labelled}
 use Rattle.graph.specs.Slices.{Owners}
 use Rattle.probe.specs.Probe.{put_first}
-use Rattle.probe.specs.Records.{owner_at, left_at, right_at, records_at, fitting, fits_at, Loaded, AllFit, OwnersRise, SoundList, ListCheck}
-use Rattle.probe.specs.Records.{uneven, many, unfit, short, sound}
-
--- a list that is f up to k, with f k at k
-one_more : (l : List ℕ) (f : ℕ → ℕ) (k v : ℕ) → k < length l → ((i : ℕ) → i < k → get_or l i 0 ≡ f i) → v ≡ f k → (i : ℕ) → i < k + 1
-    → get_or (set l k v) i 0 ≡ f i
-one_more l f k v inside before e i h =
-    by_cases (ℕ_discrete i k)
-    (λ q. ap (λ (j : ℕ). get_or (set l k v) j 0) q ∙ get_or-set_same l k v 0 inside ∙ e ∙ sym (ap f q))
-    (λ q. get_or-set_other l k i v 0 q ∙ before i (omega arith))
-
-pub loaded-start : (s owners lefts rights : List ℕ) → length owners ≡ 4096 → length lefts ≡ 4096 → length rights ≡ 4096 → Loaded s 0 owners lefts rights
-loaded-start s owners lefts rights a b c = record {
-  owners-are = a;
-  lefts-are = b;
-  rights-are = c;
-  owner = λ i h. absurd (omega arith);
-  left = λ i h. absurd (omega arith);
-  right = λ i h. absurd (omega arith);
-}
-
-pub loaded-next : {s owners lefts rights : List ℕ} {k x y z : ℕ} → Loaded s k owners lefts rights → k < 4096 → x ≡ owner_at s k → y ≡ left_at s k
-    → z ≡ right_at s k → Loaded s (k + 1) (set owners k x) (set lefts k y) (set rights k z)
-loaded-next {s} {owners} {lefts} {rights} {k} {x} {y} {z} a h p q r = record {
-  owners-are = length-set owners k x ∙ a.owners-are;
-  lefts-are = length-set lefts k y ∙ a.lefts-are;
-  rights-are = length-set rights k z ∙ a.rights-are;
-  owner = one_more owners (owner_at s) k x (omega (arith, a.owners-are)) a.owner p;
-  left = one_more lefts (left_at s) k y (omega (arith, a.lefts-are)) a.left q;
-  right = one_more rights (right_at s) k z (omega (arith, a.rights-are)) a.right r;
-}
+use Rattle.probe.specs.Records.{owner_at, left_at, right_at, records_at, fitting, fits_at, fault_number, Loaded, AllFit, OwnersRise}
+use Rattle.probe.specs.declared.bare_records.Fault.{Fault}
+use Rattle.probe.specs.declared.bare_records.Fault.TheVariants.{Uneven, TooMany, Unfit, ShortMarks, Falling}
 
 -- what was read is the records of the bytes
 pub same-records : {s owners lefts rights : List ℕ} {n : ℕ} → Loaded s n owners lefts rights → records_in owners lefts rights n ≡ records_at s n
@@ -149,10 +118,6 @@ first_marks : {found : List ℕ} (marks ms : List ℕ) → found ≡ ms → leng
 unfolding put_first
 first_marks marks ms e long h = ap (put_first marks) e ∙ rw (long, le-ltb (length marks) 256 h)
 
--- one more record that fits
-pub fit_next : (s : List ℕ) (regions k : ℕ) → AllFit s regions k → fits_at s regions k ≡ true → AllFit s regions (k + 1)
-fit_next s regions k a e i h = by_cases (ℕ_discrete i k) (λ q. ap (fits_at s regions) q ∙ e) (λ q. a i (omega arith))
-
 zeros-are : {z : List ℕ} (w : List ℕ) (regions : ℕ) → z ≡ splice w 0 (replicate (4 * regions - 0) 0) → z ≡ splice w 0 (replicate (4 * regions) 0)
 zeros-are w regions e = e ∙ ap (λ (n : ℕ). splice w 0 (replicate n 0)) (let q : 4 * regions - 0 ≡ 4 * regions = omega arith in q)
 
@@ -167,12 +132,6 @@ zero_room {z} w regions e l = omega (
 pub zero-table : {z : List ℕ} (w : List ℕ) (regions : ℕ) → z ≡ splice w 0 (replicate (4 * regions - 0) 0) → 4 * regions ≤ length w → (x : ℕ) → x < regions
     → u32_at z (0 + 4 * x) ≡ 0
 zero-table w regions e l x h = ap (λ (t : List ℕ). u32_at t (0 + 4 * x)) (zeros-are w regions e) ∙ zero_word w regions l x h
-
-pub zero-end : {z t : List ℕ} (w : List ℕ) (regions : ℕ) → t ≡ z → z ≡ splice w 0 (replicate (4 * regions - 0) 0) → t ≡ splice w 0 (replicate (4 * regions) 0)
-zero-end w regions q e = q ∙ zeros-are w regions e
-
-pub found-length : {found ms : List ℕ} → found ≡ ms → length ms ≡ 256 → 256 ≡ length found
-found-length e long = sym (ap (λ (t : List ℕ). length t) e ∙ long)
 
 -- the marks that f gives the records that were read stand before the rest
 pub marks-end : (f : List Record → ℕ → List ℕ) → ((rs : List Record) → length (f rs 256) ≡ 256) → {s owners lefts rights found out : List ℕ} {n : ℕ}
@@ -202,15 +161,10 @@ loaded-rising {s} {owners} {n = n} a h i j b l =
       ap (owner_at s) (let q : i + (j - i) ≡ j = omega arith in q),
     )
 
--- one more owner that is not below the one before it
-pub rise-next : (s : List ℕ) (k : ℕ) → OwnersRise s k → (0 < k → owner_at s (k - 1) ≤ owner_at s k) → OwnersRise s (k + 1)
-rise-next s k a e i z h =
-    by_cases (ℕ_discrete i k) (λ q. omega (arith, e (omega arith), ap (owner_at s) q, ap (λ (m : ℕ). owner_at s (m - 1)) q)) (λ q. a i z (omega arith))
-
--- a list that the checks pass
-pub sound-of : {s : List ℕ} {regions room number detail : ℕ} → ListCheck s regions room number detail → number ≡ 0 → SoundList s regions room
-sound-of (uneven a n d) z = absurd (omega (arith, n, z))
-sound-of (many a b n d) z = absurd (omega (arith, n, z))
-sound-of (unfit k a b c e f n d) z = absurd (omega (arith, n, z))
-sound-of (short a b c e n d) z = absurd (omega (arith, n, z))
-sound-of (sound l n d) z = l
+-- a fault's number is a refusal's
+pub fault-above : (f : Fault) → 0 < fault_number f
+fault-above Uneven = omega arith
+fault-above (TooMany n) = omega arith
+fault-above (Unfit k) = omega arith
+fault-above ShortMarks = omega arith
+fault-above (Falling k) = omega arith

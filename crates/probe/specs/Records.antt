@@ -5,6 +5,8 @@ use Rattle.wire.specs.Bytes.{splice, u32_at}
 use Rattle.graph.specs.Records.{Record}
 use Rattle.serial_walk.specs.Marks.{bridge_marks}
 use Rattle.marks_closing.specs.Marks.{choke_marks}
+use Rattle.probe.specs.declared.bare_records.Fault.{Fault}
+use Rattle.probe.specs.declared.bare_records.Fault.TheVariants.{Uneven, TooMany, Unfit, ShortMarks, Falling}
 
 abbrev pub owner_at : List ℕ → ℕ → ℕ
 owner_at s k = u32_at s (12 * k)
@@ -50,6 +52,21 @@ pub record SoundList (s : List ℕ) (regions room : ℕ) : Type 0 where
   pub few : length s / 12 ≤ 4096
   pub fit : AllFit s regions (length s / 12)
   pub wide : 256 ≤ room
+
+-- the number and the detail that a fault of a list has at C
+abbrev pub fault_number : Fault → ℕ
+fault_number Uneven = 1
+fault_number (TooMany n) = 2
+fault_number (Unfit k) = 3
+fault_number ShortMarks = 4
+fault_number (Falling k) = 5
+
+abbrev pub fault_detail : Fault → ℕ
+fault_detail Uneven = 0
+fault_detail (TooMany n) = n
+fault_detail (Unfit k) = k
+fault_detail ShortMarks = 0
+fault_detail (Falling k) = k
 
 -- what is wrong with it, by number and detail; number 0 where nothing is
 pub data ListCheck (s : List ℕ) (regions room number detail : ℕ) : Type 0 where

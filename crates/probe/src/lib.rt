@@ -57,7 +57,7 @@ fn copy(out: &mut [u8], part: &[u8]) -> usize
     n
 }
 
-// The ends of span i, put_first to the start of out where they fit; their number of bytes.
+// The ends of span i, put at the start of out where they fit; their number of bytes.
 pub fn probe_span_ends<'a>(
     job: &'a [u8],
     list: &'a [u8],

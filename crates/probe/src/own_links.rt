@@ -9,14 +9,14 @@ ghost use Rattle.serial_links.specs.HeldLink.{no_cell, measured_meaning};
 ghost use Rattle.analysis.specs.Plans.{Headed};
 ghost use Rattle.probe.specs.Links.{float_bits, kind_of, transverse, longitudinal, four_bytes, side_of, link_bytes, LinkAnswer};
 
-use crate::own_regions::{flag, unready};
+use crate::own_regions::unready;
 use analysis::ChokesResult;
 use checks::refusals::ANSWER_TOO_SHORT;
 use format::{BOUNDARY_SIZE, Header, read_boundary, read_header};
 use serial_links::limits::Limits;
 use serial_links::link::{Link, Measured, link_of};
 use serial_measures::few::measure_one;
-use wire::{size, write_u32, write_u64};
+use wire::{write_u32, write_u64};
 
 // No boundary has that place.
 const NO_BOUNDARY: u32 = 24;
@@ -24,10 +24,10 @@ const NO_BOUNDARY: u32 = 24;
 pub fn bits_of(x: f64) -> u64
     ensures { result ≡ float_bits x }
 {
-    if x == x {
-        return f64::to_bits(x);
+    if x.is_nan() {
+        return 0x7FF8_0000_0000_0000;
     }
-    0x7FF8_0000_0000_0000
+    x.to_bits()
 }
 
 fn kind_of(m: Measured) -> u32
@@ -40,23 +40,14 @@ fn kind_of(m: Measured) -> u32
     }
 }
 
-fn transverse_of(m: Measured) -> f64
-    ensures { result ≡ transverse (measured_meaning m) }
+// The transverse envelope and the longitudinal one.
+fn envelopes(m: Measured) -> (f64, f64)
+    ensures across { result.0 ≡ transverse (measured_meaning m) }
+    ensures along { result.1 ≡ longitudinal (measured_meaning m) }
 {
     match m {
-        Measured::Empty => 0.0,
-        Measured::Within(t, _) => t,
-        Measured::Beyond(t, _) => t,
-    }
-}
-
-fn longitudinal_of(m: Measured) -> f64
-    ensures { result ≡ longitudinal (measured_meaning m) }
-{
-    match m {
-        Measured::Empty => 0.0,
-        Measured::Within(_, l) => l,
-        Measured::Beyond(_, l) => l,
+        Measured::Empty => (0.0, 0.0),
+        Measured::Within(t, l) | Measured::Beyond(t, l) => (t, l),
     }
 }
 
@@ -66,7 +57,7 @@ fn link_between(job: &[u8], h: Header, first: usize, second: usize) -> Link
     ensures { result ≡ no_cell (link_of (side_of job.now first) (side_of job.now second)) }
 {
     let o = h.offsets;
-    let at = size(o.boundaries);
+    let at = o.boundaries as usize;
     let a = read_boundary(job, at + first * BOUNDARY_SIZE);
     let b = read_boundary(job, at + second * BOUNDARY_SIZE);
     let a_ends = a.ends;
@@ -101,14 +92,15 @@ fn tell_link(
 {
     let c = h.counts;
     let width = c.width;
-    let n = size(width * c.height);
+    let n = (width * c.height) as usize;
     let start = link_between(job, h, first, second);
     let link = measure_one(start, n, width, labels, region, limits);
     let m = link.measured(limits);
     let kind = kind_of(m);
-    let across = bits_of(transverse_of(m));
-    let along = bits_of(longitudinal_of(m));
-    write_link(kind, across, along, flag(link.inside), out);
+    let (transverse, longitudinal) = envelopes(m);
+    let across = bits_of(transverse);
+    let along = bits_of(longitudinal);
+    write_link(kind, across, along, u32::from(link.inside), out);
 }
 
 // What the link of the boundaries at two places measures in the region that has the label: four bytes for 0 empty, 1 within or 2 beyond,
@@ -155,8 +147,8 @@ pub fn probe_link(
         h,
         labels,
         region,
-        size(first),
-        size(second),
+        first as usize,
+        second as usize,
         out,
     );
     ChokesResult {

@@ -5,47 +5,37 @@ ghost use Rattle.grid.specs.Directions.{eight, directions_of};
 ghost use Rattle.analysis.specs.Plans.{Leads, OwnJob};
 ghost use Rattle.probe.specs.Parting.{PartitionBytes, PartitionLeft, PartitionAnswer, counts_from, records_from, held_bytes};
 
+use crate::bare_records::Records;
 use analysis::{ChokesResult, WORK_PER_CELL, first_answer, own_ends};
 use areas_partition::partition_by_spans;
 use checks::refusals::ANSWER_TOO_SHORT;
 use checks_calls::check_reduce;
 use format::{HEADER_SIZE, Header, read_header};
 use grid::neighbors::EIGHT;
-use wire::{size, write_u32};
+use wire::write_u32;
 
 // The counts of each span, from the third word on.
 fn write_counts(removed: &[u32; 256], separated: &[u32; 256], count: usize, out: &mut [u8])
     requires { (count ≤ 256) × (8 + 8 * count ≤ length out.old) }
     ensures { out.new ≡ splice out.old 8 (counts_from removed.now separated.now count) }
 {
-    let mut i: usize = 0;
-    while i < count {
+    for i in 0..count {
         let place = 8 + 8 * i;
         write_u32(out, place, removed[i]);
         write_u32(out, place + 4, separated[i]);
-        i += 1;
     }
 }
 
 // The records, from place at on.
-fn write_records(
-    owners: &[u32; 4096],
-    lefts: &[u32; 4096],
-    rights: &[u32; 4096],
-    pairs: usize,
-    at: usize,
-    out: &mut [u8],
-)
+fn write_records(records: &Records, pairs: usize, at: usize, out: &mut [u8])
     requires { (pairs ≤ 4096) × (at ≤ 4096) × (at + 12 * pairs ≤ length out.old) }
-    ensures { out.new ≡ splice out.old at (records_from owners.now lefts.now rights.now pairs) }
+    ensures { out.new ≡ splice out.old at (records_from records.now.owners records.now.lefts records.now.rights pairs) }
 {
-    let mut k: usize = 0;
-    while k < pairs {
+    for k in 0..pairs {
         let place = at + 12 * k;
-        write_u32(out, place, owners[k]);
-        write_u32(out, place + 4, lefts[k]);
-        write_u32(out, place + 8, rights[k]);
-        k += 1;
+        write_u32(out, place, records.owners[k]);
+        write_u32(out, place + 4, records.lefts[k]);
+        write_u32(out, place + 8, records.rights[k]);
     }
 }
 
@@ -56,14 +46,12 @@ fn write_partition(
     count: usize,
     removed: &[u32; 256],
     separated: &[u32; 256],
-    owners: &[u32; 4096],
-    lefts: &[u32; 4096],
-    rights: &[u32; 4096],
+    records: &Records,
     out: &mut [u8],
 ) -> ChokesResult
     requires { count ≤ 256 }
     ensures { PartitionBytes count pairs
-        (held_bytes areas pairs count removed.now separated.now owners.now lefts.now rights.now)
+        (held_bytes areas pairs count removed.now separated.now records.now.owners records.now.lefts records.now.rights)
         out.old out.new result.number result.detail }
 {
     let r = ChokesResult::of_pairs(pairs);
@@ -81,7 +69,7 @@ fn write_partition(
     write_u32(out, 0, areas);
     write_u32(out, 4, pairs as u32);
     write_counts(removed, separated, count, out);
-    write_records(owners, lefts, rights, pairs, start, out);
+    write_records(records, pairs, start, out);
     ChokesResult {
         number: 0,
         detail: total as u64,
@@ -100,15 +88,17 @@ fn partition_job(
         out.new result.number result.detail }
 {
     let c = h.counts;
-    let n = size(c.width * c.height);
-    let count = size(c.boundaries);
+    let n = (c.width * c.height) as usize;
+    let count = c.boundaries as usize;
     let mut ends = [0u32; 1024];
     own_ends(job, h, &mut ends);
     let mut removed = [0u32; 256];
     let mut separated = [0u32; 256];
-    let mut owners = [0u32; 4096];
-    let mut lefts = [0u32; 4096];
-    let mut rights = [0u32; 4096];
+    let mut records = Records {
+        owners: [0; 4096],
+        lefts: [0; 4096],
+        rights: [0; 4096],
+    };
     let p = partition_by_spans(
         &job[HEADER_SIZE..HEADER_SIZE + n],
         c.width,
@@ -119,13 +109,11 @@ fn partition_job(
         work,
         &mut removed,
         &mut separated,
-        &mut owners,
-        &mut lefts,
-        &mut rights,
+        &mut records.owners,
+        &mut records.lefts,
+        &mut records.rights,
     );
-    write_partition(
-        p.areas, p.pairs, count, &removed, &separated, &owners, &lefts, &rights, out,
-    )
+    write_partition(p.areas, p.pairs, count, &removed, &separated, &records, out)
 }
 
 // Labels the areas in work, and tells what the partition found in out.

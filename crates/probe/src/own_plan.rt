@@ -12,7 +12,7 @@ use checks::refusals::ANSWER_TOO_SHORT;
 use format::{HEADER_SIZE, read_header};
 use grid::neighbors::EIGHT;
 use serial_links::limits::Limits;
-use wire::{size, write_u32};
+use wire::write_u32;
 
 // The plan of Reduce, or of Reduce by list where `which` isn't 0.
 fn plan_of(
@@ -41,12 +41,10 @@ fn write_plan(order: &[u32; 256], plan: &[u32; 256], n: usize, out: &mut [u8])
     requires { (n ≤ 256) × PermutationOf order.now n × PlanInside plan.now n × (4 * n ≤ length out.old) }
     ensures { Words order.now (λ i. get_or order.now (get_or plan.now i 0) 0) n n out.old out.new }
 {
-    let mut i: usize = 0;
-    while i < n {
-        let place = 4 * size(order[i]);
-        let to = size(plan[i]);
+    for i in 0..n {
+        let place = 4 * order[i] as usize;
+        let to = plan[i] as usize;
         write_u32(out, place, order[to]);
-        i += 1;
     }
 }
 
@@ -59,7 +57,7 @@ fn count_of(job: &[u8]) -> usize
     }
     let h = read_header(job);
     let c = h.counts;
-    let n = size(c.boundaries);
+    let n = c.boundaries as usize;
     if 256 < n {
         return 0;
     }

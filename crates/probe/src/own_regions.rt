@@ -2,7 +2,6 @@
 ghost use Rattle.std.specs.Prelude.{◌≡◌, ◌*◌, ◌≤◌, length};
 ghost use Rattle.wire.specs.Bytes.{words, splice};
 ghost use Rattle.format.specs.Decode.{decode};
-ghost use Rattle.context.specs.Held.{one};
 ghost use Rattle.analysis.specs.Plans.{Headed};
 ghost use Rattle.probe.specs.Regions.{LabelsReady, region_words, cell_labels, Shown};
 
@@ -13,7 +12,7 @@ use checks_calls::check_reduce;
 use context::anchored::{anchor_labels, is_anchored};
 use context::stats::region_stats;
 use format::{HEADER_SIZE, Header, read_header};
-use wire::{size, write_u32};
+use wire::write_u32;
 
 // The refusal of a job, or of labels under four bytes a cell.
 pub fn unready(job: &[u8], labels: &[u8]) -> ChokesResult
@@ -22,22 +21,13 @@ pub fn unready(job: &[u8], labels: &[u8]) -> ChokesResult
     first_answer(check_reduce(job), job, 4, labels.len())
 }
 
-pub fn flag(t: bool) -> u32
-    ensures { result ≡ one t }
-{
-    if t { 1 } else { 0 }
-}
-
 // Little-endian words at the start of out.
 pub fn write_words(ws: &[u32], out: &mut [u8])
     requires { (length ws.now ≤ 64) × (4 * length ws.now ≤ length out.old) }
     ensures { out.new ≡ splice out.old 0 (words ws.now) }
 {
-    let n = ws.len();
-    let mut i: usize = 0;
-    while i < n {
-        write_u32(out, 4 * i, ws[i]);
-        i += 1;
+    for (i, w) in ws.iter().enumerate() {
+        write_u32(out, 4 * i, *w);
     }
 }
 
@@ -50,14 +40,14 @@ fn tell_region(job: &[u8], h: Header, labels: &[u8], region: u32, out: &mut [u8]
     let c = h.counts;
     let o = h.offsets;
     let width = c.width;
-    let n = size(width * c.height);
+    let n = (width * c.height) as usize;
     let counted = count_cells(labels, n, region);
     let s = region_stats(&job[HEADER_SIZE..HEADER_SIZE + n], width, labels, region);
     let mut anchors = [0u32; 256];
     let found = anchor_labels(
         job,
-        size(o.bases),
-        size(c.bases),
+        o.bases as usize,
+        c.bases as usize,
         width,
         labels,
         n,
@@ -71,12 +61,12 @@ fn tell_region(job: &[u8], h: Header, labels: &[u8], region: u32, out: &mut [u8]
         s.min_y,
         s.max_x,
         s.max_y,
-        flag(s.has_ramp),
+        u32::from(s.has_ramp),
         s.level_0,
         s.level_1,
         s.level_2,
         s.level_3,
-        flag(anchored),
+        u32::from(anchored),
     ];
     write_words(&ws, out);
 }

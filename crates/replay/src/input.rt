@@ -1,5 +1,6 @@
 // An input: the job, the list and the block of thresholds that the calls after it are made on.
-ghost use Rattle.std.specs.Prelude.{◌+◌, ◌≤◌};
+ghost use Rattle.std.specs.Prelude.{◌≡◌, ◌+◌, ◌≤◌, IsOk, take, drop};
+ghost use Rattle.wire.specs.Bytes.{u32_at};
 
 use crate::compare::Fault;
 use crate::pieces::expand_all;
@@ -46,7 +47,11 @@ impl Held {
         }
     }
 
-    pub fn read(&mut self, item: &[u8]) -> Result<(), Fault> {
+    // Reads an input; the lengths are the item's numbers.
+    pub fn read(&mut self, item: &[u8]) -> Result<(), Fault>
+        ensures { IsOk result → (self.new.lengths.job ≡ u32_at item.now 1) × (self.new.lengths.list ≡ u32_at item.now 5)
+            × (self.new.lengths.thresholds ≡ u32_at item.now 9) }
+    {
         if item.len() < FIELDS {
             return Err(Fault::NotWhole);
         }
@@ -65,7 +70,11 @@ impl Held {
         expand_all(&item[FIELDS..], &mut self.bytes[..all])
     }
 
-    pub fn input(&self) -> Input<'_> {
+    pub fn input(&self) -> Input<'_>
+        ensures { let l = self.now.lengths in (result.job.now ≡ take l.job self.now.bytes)
+            × (result.list.now ≡ take l.list (drop l.job self.now.bytes))
+            × (result.thresholds.now ≡ take l.thresholds (drop l.list (drop l.job self.now.bytes))) }
+    {
         let (job, rest) = self.bytes.split_at(self.lengths.job);
         let (list, rest) = rest.split_at(self.lengths.list);
         Input {

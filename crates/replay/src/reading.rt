@@ -1,6 +1,7 @@
 // Items of the list: each is its length, four bytes, and so many bytes, the first of which is its
 // kind.
-ghost use Rattle.std.specs.Prelude.{◌≡◌, ◌≤◌, IfOk, IfSome, length};
+ghost use Rattle.std.specs.Prelude.{◌≡◌, ◌<◌, ◌≤◌, IfOk, IfSome, MatchResult, length};
+ghost use Rattle.replay.specs.Kinds.{kind_byte};
 
 use crate::calls::Call;
 use crate::compare::{Fault, Stop};
@@ -15,6 +16,8 @@ pub enum Kind {
 
 impl TryFrom<u8> for Kind {
     type Error = Fault;
+
+    ghost try_from_gives = { λ byte r. MatchResult r (λ kind. kind_byte kind ≡ byte) (λ _. 4 < byte) };
 
     fn try_from(byte: u8) -> Result<Kind, Fault> {
         match byte {

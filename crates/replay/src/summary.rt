@@ -1,5 +1,5 @@
 // What was called, and what is printed of it.
-ghost use Rattle.std.specs.Prelude.{◌<◌};
+ghost use Rattle.std.specs.Prelude.{◌≡◌, ◌+◌, ◌<◌};
 
 use crate::calls::{Call, NUMBERS};
 use std::io;
@@ -28,12 +28,15 @@ impl Counts {
     }
 
     // The number of the next call, from 1, as far as it goes.
-    pub fn next(&self) -> u64 {
+    pub fn next(&self) -> u64
+        ensures { self.now.calls < u64.MAX → result ≡ self.now.calls + 1 }
+    {
         self.calls.saturating_add(1)
     }
 
     pub fn add(&mut self, call: Call, number: u32)
         requires { number < 33 }
+        ensures { self.old.calls < u64.MAX → self.new.calls ≡ self.old.calls + 1 }
     {
         self.calls = self.next();
         let i = place(call, number);
