@@ -14,7 +14,7 @@ use format::read_header;
 // "Work is a lent byte slice: ten bytes per cell."
 pub const WORK_PER_CELL: usize = 10;
 
-// Number 0 is success; a refusal has document 01's number, and each has one detail.
+// Number 0 is success; a refusal has document 01's number, and each has one detail. Numbers, not Result: the C interface gives it back.
 #[repr(C)]
 #[derive(Clone, Copy)]
 pub struct ChokesResult {
@@ -87,7 +87,7 @@ pub fn check_room(
 }
 
 impl ChokesResult {
-    // 13, or number 0.
+    // What `check_pairs` says, as a call gives it back: 13, or number 0.
     pub fn of_pairs(pairs: usize) -> ChokesResult
         ensures { PairAnswer pairs result.number result.detail }
     {

@@ -70,6 +70,7 @@ pub fn check_boundaries(job: &[u8], distinct: bool) -> Result<(), Refused>
     )
 }
 
+// Reduce's and Mark's are two functions, not one: each promises its own call's checks.
 pub fn check_reduce(job: &[u8]) -> Result<(), Refused>
     ensures { meaning result ≡ first_refusal (reduce_checks job.now) }
 {

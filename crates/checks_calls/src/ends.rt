@@ -24,6 +24,7 @@ fn list_has(job: &[u8], list: &[u8], i: usize) -> bool
     check_reduce_by_list(job, list).is_ok() && i < list.len() / SPAN_SIZE
 }
 
+// A number chooses, not an enum: probe_c's C interface passes it on.
 pub fn span_ends<'a>(job: &'a [u8], list: &'a [u8], which: u32, i: u32) -> &'a [u8]
     ensures { SpanPart job.now list.now which i job.entry.ref_ptr list.entry.ref_ptr result.ref_ptr result.now }
 {

@@ -1,4 +1,3 @@
-use Prim.Native.Nat.{◌-◌}
 use Rattle.checks.proofs.Firsts.{Clean}
 use Rattle.checks.specs.Single.{base_check}
 use Rattle.checks.proofs.bases.check_bases.Given as goal

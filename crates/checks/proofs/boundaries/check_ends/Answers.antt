@@ -1,5 +1,4 @@
 use mathlib.Core.Path.{◌∙◌, ap}
-use Prim.Native.Nat.{◌-◌}
 use Rattle.checks.proofs.Firsts.{clean-start, clean-next, clean_found, clean_end, skip, stop, clear-two, told}
 use mathlib.Core.Bool.{Bool, ◌&&◌}
 use Rattle.position.specs.Order.{pos_same}

@@ -1,4 +1,3 @@
-use Prim.Native.Nat.{◌-◌}
 use Rattle.checks.proofs.Firsts.{Clean}
 use Rattle.checks.specs.Single.{ends_check}
 use Rattle.checks.proofs.boundaries.check_ends.Given as goal

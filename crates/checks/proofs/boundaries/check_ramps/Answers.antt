@@ -1,4 +1,3 @@
-use Prim.Native.Nat.{◌-◌}
 use Rattle.checks.proofs.Firsts.{clean-start, clean-next, clean_found, clean_end, clear, stop, told}
 use Rattle.format.specs.declared.records.BoundaryRecord.{BoundaryRecord}
 use Rattle.checks.specs.Faults.{ramp_fault}

@@ -1,4 +1,3 @@
-use Prim.Native.Nat.{◌-◌}
 use Rattle.checks.proofs.Firsts.{Clean}
 use Rattle.checks.specs.Single.{ramp_check}
 use Rattle.checks.proofs.boundaries.check_ramps.Given as goal

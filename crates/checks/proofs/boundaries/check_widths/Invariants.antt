@@ -1,4 +1,3 @@
-use Prim.Native.Nat.{◌-◌}
 use Rattle.checks.proofs.Firsts.{Clean}
 use Rattle.checks.specs.Single.{width_check}
 use Rattle.checks.proofs.boundaries.check_widths.Given as goal

@@ -1,4 +1,3 @@
-use Prim.Native.Nat.{◌-◌}
 use native.Mathlib.Omega.{arith}
 use borrow.Author.Tests.{le-leb, lt-leb}
 use Rattle.checks.proofs.Firsts.{clean-start, clean-next, clean_found, clean_end, clear, stop}

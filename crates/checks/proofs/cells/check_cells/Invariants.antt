@@ -1,4 +1,3 @@
-use Prim.Native.Nat.{◌-◌}
 use Rattle.checks.proofs.Firsts.{Clean}
 use Rattle.checks.specs.Single.{cell_check}
 use Rattle.checks.proofs.cells.check_cells.Given as goal

@@ -1,5 +1,4 @@
 use mathlib.Core.Path.{◌∙◌}
-use Prim.Native.Nat.{◌-◌}
 use Rattle.checks.proofs.Firsts.{clean-start, clean-next, clean_found, clean_end, skip, stop, clear-two, told}
 use Rattle.position.specs.Order.{pos_same}
 use Rattle.position.specs.declared.Span.{Span}

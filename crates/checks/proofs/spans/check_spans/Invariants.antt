@@ -1,4 +1,3 @@
-use Prim.Native.Nat.{◌-◌}
 use Rattle.checks.proofs.Firsts.{Clean}
 use Rattle.checks.specs.Single.{span_check}
 use Rattle.checks.proofs.spans.check_spans.Given as goal

@@ -1,4 +1,3 @@
-use Prim.Native.Nat.{◌-◌}
 use native.Mathlib.Omega.{arith}
 use Rattle.format.specs.Decode.{boundary_records}
 use Rattle.format.specs.declared.records.BoundaryRecord.{BoundaryRecord}

@@ -1,4 +1,4 @@
-use Prim.Native.Nat.{◌+◌, ◌-◌, ◌*◌}
+use Prim.Native.Nat.{◌+◌, ◌*◌}
 use Rattle.format.specs.Records.{boundary_at}
 use Rattle.checks.proofs.Adding.{Added}
 use Rattle.checks.proofs.sums.observation_total.Given as goal

@@ -1,4 +1,3 @@
-use Prim.Native.Nat.{◌-◌}
 use native.Mathlib.Omega.{arith}
 use Rattle.format.specs.Decode.{observation_records, source_count}
 use Rattle.format.specs.declared.records.ObservationRecord.{ObservationRecord}

@@ -1,4 +1,4 @@
-use Prim.Native.Nat.{◌+◌, ◌-◌, ◌*◌}
+use Prim.Native.Nat.{◌+◌, ◌*◌}
 use Rattle.format.specs.Records.{observation_at}
 use Rattle.checks.proofs.Adding.{Added}
 use Rattle.checks.proofs.sums.source_count.Given as goal
