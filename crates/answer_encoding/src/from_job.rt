@@ -11,6 +11,7 @@ ghost use Rattle.answer_encoding.specs.Answered.{Answered, Answerable, kept_of};
 
 use crate::by_place::place_job;
 use crate::gathered::write_gathered;
+use answer_gathering::observations::Observations;
 use format::{Header, MAX_BOUNDARIES, MAX_OBSERVATIONS, MAX_SOURCES};
 
 // The most sources of a small job, and the most places: boundaries and observations together.
@@ -63,10 +64,15 @@ fn write_within<const SOURCES: usize, const PLACES: usize, const LINKS: usize>(
         &mut counts,
         &mut keys,
     );
-    write_gathered::<SOURCES, PLACES, LINKS>(
-        job, h, order, plan, &stands, &firsts, &first, &second, &third, &starts, &counts, &keys,
-        answer,
-    )
+    let o = Observations {
+        first: &first,
+        second: &second,
+        third: &third,
+        starts: &starts,
+        counts: &counts,
+        keys: &keys,
+    };
+    write_gathered::<SOURCES, PLACES, LINKS>(job, h, order, plan, &stands, &firsts, o, answer)
 }
 
 // The answer's length; the answer itself where it fits.

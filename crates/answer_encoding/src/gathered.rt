@@ -5,6 +5,7 @@ ghost use Rattle.answer_encoding.specs.Answered.{Answered, Answerable, WorkedFor
 
 use crate::whole::write_kept;
 use answer_gathering::kept::gather_kept;
+use answer_gathering::observations::Observations;
 use format::Header;
 
 // The answer, gathered in arrays that are lent.
@@ -15,12 +16,7 @@ fn write_gathered_in(
     plan: &[u32; 256],
     stands: &[u32; 256],
     firsts: &[u32],
-    first: &[u64],
-    second: &[u64],
-    third: &[u64],
-    starts: &[u32],
-    counts: &[u32],
-    keys: &[u64],
+    o: Observations,
     heads: usize,
     links: &mut [u16],
     owned: &mut [u16],
@@ -29,27 +25,25 @@ fn write_gathered_in(
     answer: &mut [u8],
 ) -> usize
     requires { Answerable job.now h order.now
-        × WorkedFor job.now h order.now plan.now stands.now firsts.now first.now second.now third.now starts.now counts.now keys.now
+        × WorkedFor job.now h order.now plan.now stands.now firsts.now o.first.now o.second.now o.third.now o.starts.now o.counts.now o.keys.now
         × GatherArrays h.counts.boundaries h.counts.observations h.counts.sources heads links.old owned.old seen.old places.old }
     ensures { Answered (encode_answer (kept_of job.now order.now plan.now)) answer.old answer.new
         result }
 {
     let c = h.counts;
-    let o = h.offsets;
-    let at = o.boundaries as usize;
+    let at = h.offsets.boundaries as usize;
     let n = c.boundaries as usize;
-    let from = o.sources as usize;
+    let from = h.offsets.sources as usize;
     let base = c.observations as usize;
     let mut kept = [0u32; 256];
     let mut owns = [0u32; 256];
     let mut seens = [0u32; 256];
     let count = gather_kept(
-        job, at, n, from, base, order, plan, stands, firsts, first, second, third, starts, counts,
-        keys, heads, links, &mut kept, &mut owns, &mut seens, owned, seen, places,
+        job, at, n, from, base, order, plan, stands, firsts, o, heads, links, &mut kept, &mut owns,
+        &mut seens, owned, seen, places,
     );
     write_kept(
-        job, at, from, count, &kept, &owns, &seens, owned, seen, first, second, third, starts,
-        counts, keys, answer,
+        job, at, from, count, &kept, &owns, &seens, owned, seen, o, answer,
     )
 }
 
@@ -62,16 +56,11 @@ pub fn write_gathered<const SOURCES: usize, const PLACES: usize, const LINKS: us
     plan: &[u32; 256],
     stands: &[u32; 256],
     firsts: &[u32],
-    first: &[u64],
-    second: &[u64],
-    third: &[u64],
-    starts: &[u32],
-    counts: &[u32],
-    keys: &[u64],
+    o: Observations,
     answer: &mut [u8],
 ) -> usize
     requires { Answerable job.now h order.now
-        × WorkedFor job.now h order.now plan.now stands.now firsts.now first.now second.now third.now starts.now counts.now keys.now
+        × WorkedFor job.now h order.now plan.now stands.now firsts.now o.first.now o.second.now o.third.now o.starts.now o.counts.now o.keys.now
         × (h.counts.observations + h.counts.boundaries ≤ PLACES) × (h.counts.sources ≤ SOURCES) × (SOURCES ≤ 4096) × (PLACES ≤ 1280)
         × (LINKS ≡ 6 * SOURCES) }
     ensures { Answered (encode_answer (kept_of job.now order.now plan.now)) answer.old answer.new
@@ -88,12 +77,7 @@ pub fn write_gathered<const SOURCES: usize, const PLACES: usize, const LINKS: us
         plan,
         stands,
         firsts,
-        first,
-        second,
-        third,
-        starts,
-        counts,
-        keys,
+        o,
         4 * SOURCES,
         &mut links,
         &mut owned,

@@ -7,15 +7,16 @@ ghost use Rattle.answer_encoding.specs.Answered.{RunsWritten};
 
 use crate::reads::read_or;
 use crate::records::write_source;
+use answer_gathering::observations::Observations;
 use format::SOURCE_SIZE;
 
 // How many sources the observation at place p has: as many of its numbers as there are.
-pub fn run_length(starts: &[u32], counts: &[u32], keys: &[u64], p: usize) -> u32
-    ensures { result ≡ run_length starts.now counts.now keys.now p }
+pub fn run_length(o: Observations, p: usize) -> u32
+    ensures { result ≡ run_length o.entry.starts.now o.entry.counts.now o.entry.keys.now p }
 {
-    let a = read_or(starts, p, 0) as usize;
-    let n = read_or(counts, p, 0) as usize;
-    n.min(keys.len().saturating_sub(a)) as u32
+    let a = read_or(o.starts, p, 0) as usize;
+    let n = read_or(o.counts, p, 0) as usize;
+    n.min(o.keys.len().saturating_sub(a)) as u32
 }
 
 // The sources of `count` numbers from `from` on.
@@ -35,19 +36,17 @@ pub fn write_runs(
     seen: &[u32],
     from: usize,
     n: usize,
-    starts: &[u32],
-    counts: &[u32],
-    keys: &[u64],
+    o: Observations,
 ) -> usize
-    requires { (at + length (runs_from seen.now starts.now counts.now keys.now from n) ≤ length s.old) × (from ≤ 1280) × (n ≤ 1280) }
-    ensures { RunsWritten s.old at (runs_from seen.now starts.now counts.now keys.now from n)
+    requires { (at + length (runs_from seen.now o.starts.now o.counts.now o.keys.now from n) ≤ length s.old) × (from ≤ 1280) × (n ≤ 1280) }
+    ensures { RunsWritten s.old at (runs_from seen.now o.entry.starts.now o.entry.counts.now o.entry.keys.now from n)
         s.new result }
 {
     let mut to = at;
     for i in 0..n {
         let p = read_or(seen, from + i, 0) as usize;
-        let count = run_length(starts, counts, keys, p) as usize;
-        write_run(s, to, keys, read_or(starts, p, 0) as usize, count);
+        let count = run_length(o, p) as usize;
+        write_run(s, to, o.keys, read_or(o.starts, p, 0) as usize, count);
         to += count * SOURCE_SIZE;
     }
     to

@@ -11,6 +11,7 @@ use crate::reads::read_or;
 use crate::records::write_boundary;
 use crate::runs::{run_length, write_runs};
 use crate::units::{bits_of, span_of};
+use answer_gathering::observations::Observations;
 use format::{
     ANSWER_BOUNDARY_SIZE, BOUNDARY_SIZE, OBSERVATION_SIZE, SOURCE_SIZE, read_boundary,
     write_observation,
@@ -40,56 +41,25 @@ pub fn write_boundaries(
 }
 
 // The observation at place p.
-pub fn write_place(
-    s: &mut [u8],
-    at: usize,
-    p: usize,
-    first: &[u64],
-    second: &[u64],
-    third: &[u64],
-    starts: &[u32],
-    counts: &[u32],
-    keys: &[u64],
-)
+pub fn write_place(s: &mut [u8], at: usize, p: usize, o: Observations)
     requires { at + observation_size ≤ length s.old }
     ensures { s.new ≡ splice s.old at
-        (place_piece first.now second.now third.now starts.now counts.now keys.now p) }
+        (place_piece o.entry.first.now o.entry.second.now o.entry.third.now o.entry.starts.now o.entry.counts.now o.entry.keys.now p) }
 {
-    let e = span_of(read_or(first, p, 0), read_or(second, p, 0));
-    let bits = bits_of(read_or(third, p, 0));
-    write_observation(s, at, e, bits, run_length(starts, counts, keys, p));
+    let e = span_of(read_or(o.first, p, 0), read_or(o.second, p, 0));
+    let bits = bits_of(read_or(o.third, p, 0));
+    write_observation(s, at, e, bits, run_length(o, p));
 }
 
-pub fn write_observations(
-    s: &mut [u8],
-    to: usize,
-    count: usize,
-    seen: &[u32],
-    first: &[u64],
-    second: &[u64],
-    third: &[u64],
-    starts: &[u32],
-    counts: &[u32],
-    keys: &[u64],
-)
+pub fn write_observations(s: &mut [u8], to: usize, count: usize, seen: &[u32], o: Observations)
     requires { (to + count * observation_size ≤ length s.old) × (count ≤ 1280) }
     ensures { s.new ≡ splice s.old to
-        (pieces count (λ q. place_piece first.now second.now third.now starts.now counts.now
-        keys.now (get_or seen.now q 0))) }
+        (pieces count (λ q. place_piece o.entry.first.now o.entry.second.now o.entry.third.now o.entry.starts.now o.entry.counts.now
+        o.entry.keys.now (get_or seen.now q 0))) }
 {
     for q in 0..count {
         let p = read_or(seen, q, 0) as usize;
-        write_place(
-            s,
-            to + q * OBSERVATION_SIZE,
-            p,
-            first,
-            second,
-            third,
-            starts,
-            counts,
-            keys,
-        );
+        write_place(s, to + q * OBSERVATION_SIZE, p, o);
     }
 }
 
@@ -104,14 +74,12 @@ pub fn write_sources(
     seens: &[u32],
     owned: &[u16],
     seen: &[u32],
-    starts: &[u32],
-    counts: &[u32],
-    keys: &[u64],
+    o: Observations,
 )
-    requires { SourceRoom job.now from count owns.now seens.now owned.now seen.now starts.now counts.now keys.now at s.old }
+    requires { SourceRoom job.now from count owns.now seens.now owned.now seen.now o.starts.now o.counts.now o.keys.now at s.old }
     ensures { s.new ≡ splice s.old at
         (pieces count (group_piece job.now from owns.now seens.now owned.now seen.now
-        starts.now counts.now keys.now)) }
+        o.entry.starts.now o.entry.counts.now o.entry.keys.now)) }
 {
     let mut to = at;
     let mut a: usize = 0;
@@ -120,7 +88,7 @@ pub fn write_sources(
         let own = read_or(owns, k, 0) as usize;
         let n = read_or(seens, k, 0) as usize;
         write_own(s, to, job, from, owned, a, own);
-        to = write_runs(s, to + own * SOURCE_SIZE, seen, q, n, starts, counts, keys);
+        to = write_runs(s, to + own * SOURCE_SIZE, seen, q, n, o);
         a += own;
         q += n;
     }

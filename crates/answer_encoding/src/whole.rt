@@ -8,6 +8,7 @@ ghost use Rattle.answer_encoding.specs.Answered.{Answered, Writable};
 use crate::records::write_header;
 use crate::sections::{write_boundaries, write_observations, write_sources};
 use crate::sums::{sum_first, sum_runs};
+use answer_gathering::observations::Observations;
 use format::{ANSWER_BOUNDARY_SIZE, ANSWER_HEADER_SIZE, OBSERVATION_SIZE, SOURCE_SIZE};
 
 // The answer's length; the answer itself where it fits. Every length is known before a byte is written.
@@ -21,23 +22,18 @@ pub fn write_kept(
     seens: &[u32],
     owned: &[u16],
     seen: &[u32],
-    first: &[u64],
-    second: &[u64],
-    third: &[u64],
-    starts: &[u32],
-    counts: &[u32],
-    keys: &[u64],
+    o: Observations,
     answer: &mut [u8],
 ) -> usize
-    requires { Writable job.now at from count kept.now owns.now seens.now owned.now seen.now first.now second.now third.now
-        starts.now counts.now keys.now }
+    requires { Writable job.now at from count kept.now owns.now seens.now owned.now seen.now o.first.now o.second.now o.third.now
+        o.starts.now o.counts.now o.keys.now }
     ensures { (n : ℕ) (ks : List Boundary) → length ks ≡ count
         → Gathered job.now at from n ks kept.now owns.now seens.now owned.now
-        seen.now first.now second.now third.now starts.now counts.now
-        keys.now → Answered (encode_answer ks) answer.old answer.new result }
+        seen.now o.entry.first.now o.entry.second.now o.entry.third.now o.entry.starts.now o.entry.counts.now
+        o.entry.keys.now → Answered (encode_answer ks) answer.old answer.new result }
 {
     let observations = sum_first(seens, count);
-    let sources = sum_first(owns, count) + sum_runs(seen, observations, starts, counts, keys);
+    let sources = sum_first(owns, count) + sum_runs(seen, observations, o);
     let places = ANSWER_HEADER_SIZE + count * ANSWER_BOUNDARY_SIZE;
     let runs = places + observations * OBSERVATION_SIZE;
     let total = runs + sources * SOURCE_SIZE;
@@ -55,20 +51,7 @@ pub fn write_kept(
         answer,
         ANSWER_HEADER_SIZE,
     );
-    write_observations(
-        answer,
-        places,
-        observations,
-        seen,
-        first,
-        second,
-        third,
-        starts,
-        counts,
-        keys,
-    );
-    write_sources(
-        answer, runs, count, job, from, owns, seens, owned, seen, starts, counts, keys,
-    );
+    write_observations(answer, places, observations, seen, o);
+    write_sources(answer, runs, count, job, from, owns, seens, owned, seen, o);
     total
 }

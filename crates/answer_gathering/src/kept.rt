@@ -6,6 +6,7 @@ ghost use Rattle.answer_sources.specs.Placed.{CopiesPlaced, boundary_rows};
 ghost use Rattle.answer_sources.specs.Gathered.{Gathered, kept_by};
 ghost use Rattle.answer_gathering.specs.Room.{GatherRoom};
 
+use crate::observations::Observations;
 use crate::own::gather_owns;
 use crate::seen::gather_seens;
 
@@ -21,12 +22,7 @@ pub fn gather_kept(
     plan: &[u32; 256],
     stands: &[u32; 256],
     firsts: &[u32],
-    first: &[u64],
-    second: &[u64],
-    third: &[u64],
-    starts: &[u32],
-    counts: &[u32],
-    keys: &[u64],
+    o: Observations,
     heads: usize,
     links: &mut [u16],
     kept: &mut [u32],
@@ -36,15 +32,15 @@ pub fn gather_kept(
     seen: &mut [u32],
     spare_places: &mut [u32],
 ) -> usize
-    requires { GatherRoom job.now at n from base heads order.now plan.now stands.now firsts.now starts.now links.old kept.old owns.old
+    requires { GatherRoom job.now at n from base heads order.now plan.now stands.now firsts.now o.starts.now links.old kept.old owns.old
         seens.old owned.old seen.old spare_places.old }
     ensures { (os : ℕ → ObservationRecord) (count : ℕ)
         → CopiesPlaced (boundary_rows job.now at) os (source_records job.now from count) base n stands.now
-        firsts.now first.now second.now third.now starts.now counts.now keys.now
+        firsts.now o.entry.first.now o.entry.second.now o.entry.third.now o.entry.starts.now o.entry.counts.now o.entry.keys.now
         → Gathered job.now at from n
         (kept_by (boundary_rows job.now at) os (source_records job.now from count) order.now plan.now n)
-        kept.new owns.new seens.new owned.new seen.new first.now second.now
-        third.now starts.now counts.now keys.now
+        kept.new owns.new seens.new owned.new seen.new o.entry.first.now o.entry.second.now
+        o.entry.third.now o.entry.starts.now o.entry.counts.now o.entry.keys.now
         × (result ≡ length
         (kept_by (boundary_rows job.now at) os (source_records job.now from count) order.now plan.now n)) }
 {
@@ -57,17 +53,12 @@ pub fn gather_kept(
         base,
         stands,
         firsts,
-        first,
-        second,
-        third,
-        starts,
-        counts,
-        keys,
+        o,
         seens,
         seen,
         spare_places,
     );
     gather_owns(
-        job, at, from, order, plan, n, base, starts, heads, links, kept, owns, owned,
+        job, at, from, order, plan, n, base, o.starts, heads, links, kept, owns, owned,
     )
 }

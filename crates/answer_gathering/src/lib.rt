@@ -2,6 +2,7 @@
 #![tactic(auto)]
 
 mod casts;
+pub mod observations; // what they are sorted by
 mod runs; // numbers written one after another
 mod own; // own sources
 mod seen; // places of observations

@@ -6,6 +6,7 @@ ghost use Rattle.answer_gathering.specs.Runs.{Appended, going, places_at, seen_r
 ghost use Rattle.answer_gathering.specs.Room.{SeenRoom, SeensRoom};
 
 use crate::casts::counted;
+use crate::observations::Observations;
 use crate::runs::append_places;
 use format::{BOUNDARY_SIZE, read_boundary};
 use places::places::sort_places;
@@ -108,12 +109,7 @@ fn gather_seen(
     base: usize,
     stands: &[u32; 256],
     firsts: &[u32],
-    first: &[u64],
-    second: &[u64],
-    third: &[u64],
-    starts: &[u32],
-    counts: &[u32],
-    keys: &[u64],
+    o: Observations,
     seen: &mut [u32],
     spare: &mut [u32],
     from: usize,
@@ -122,13 +118,13 @@ fn gather_seen(
         × (from + sum_below (into plan.now (seen_weight order.now (seen_count job.now at)) i) n ≤ length seen.old)
         × (from + sum_below (into plan.now (seen_weight order.now (seen_count job.now at)) i) n ≤ length spare.old) }
     ensures { Appended seen.old from
-        (seen_run base order.now plan.now firsts.now first.now second.now third.now
-        starts.now counts.now keys.now (seen_count job.now at) n i) seen.new result
+        (seen_run base order.now plan.now firsts.now o.entry.first.now o.entry.second.now o.entry.third.now
+        o.entry.starts.now o.entry.counts.now o.entry.keys.now (seen_count job.now at) n i) seen.new result
         × (result ≤ from + sum_below (into plan.now (seen_weight order.now (seen_count job.now at)) i) n) }
 {
     let end = add_seens(job, at, order, plan, n, i, base, stands, firsts, seen, from);
     sort_places(
-        seen, spare, from, end, first, second, third, starts, counts, keys,
+        seen, spare, from, end, o.first, o.second, o.third, o.starts, o.counts, o.keys,
     );
     end
 }
@@ -144,12 +140,7 @@ fn seen_rank(
     base: usize,
     stands: &[u32; 256],
     firsts: &[u32],
-    first: &[u64],
-    second: &[u64],
-    third: &[u64],
-    starts: &[u32],
-    counts: &[u32],
-    keys: &[u64],
+    o: Observations,
     seens: &mut [u32],
     seen: &mut [u32],
     spare: &mut [u32],
@@ -157,18 +148,17 @@ fn seen_rank(
     a: usize,
 ) -> usize
     requires { SeensRoom job.now at base order.now plan.now stands.now firsts.now seens.old seen.old spare.old n × (i < n)
-        × SeensBy base order.now plan.now firsts.now first.now second.now third.now starts.now counts.now keys.now
+        × SeensBy base order.now plan.now firsts.now o.first.now o.second.now o.third.now o.starts.now o.counts.now o.keys.now
         (seen_count job.now at) n i k a seens.old seen.old }
-    ensures { SeensBy base order.now plan.now firsts.now first.now second.now third.now
-        starts.now counts.now keys.now (seen_count job.now at) n (i + 1)
+    ensures { SeensBy base order.now plan.now firsts.now o.entry.first.now o.entry.second.now o.entry.third.now
+        o.entry.starts.now o.entry.counts.now o.entry.keys.now (seen_count job.now at) n (i + 1)
         (k + cond (eqb (get_or plan.now i 0) i) 1 0) result seens.new seen.new }
 {
     if plan[i] as usize != i {
         return a;
     }
     let r = gather_seen(
-        job, at, order, plan, n, i, base, stands, firsts, first, second, third, starts, counts,
-        keys, seen, spare, a,
+        job, at, order, plan, n, i, base, stands, firsts, o, seen, spare, a,
     );
     seens[k] = (r - a) as u32;
     r
@@ -184,28 +174,22 @@ pub fn gather_seens(
     base: usize,
     stands: &[u32; 256],
     firsts: &[u32],
-    first: &[u64],
-    second: &[u64],
-    third: &[u64],
-    starts: &[u32],
-    counts: &[u32],
-    keys: &[u64],
+    o: Observations,
     seens: &mut [u32],
     seen: &mut [u32],
     spare: &mut [u32],
 ) -> usize
     requires { SeensRoom job.now at base order.now plan.now stands.now firsts.now seens.old seen.old spare.old n }
-    ensures { SeensBy base order.now plan.now firsts.now first.now second.now third.now
-        starts.now counts.now keys.now (seen_count job.now at) n n result
-        (seen_total base order.now plan.now firsts.now first.now second.now third.now
-        starts.now counts.now keys.now (seen_count job.now at) n) seens.new seen.new }
+    ensures { SeensBy base order.now plan.now firsts.now o.entry.first.now o.entry.second.now o.entry.third.now
+        o.entry.starts.now o.entry.counts.now o.entry.keys.now (seen_count job.now at) n n result
+        (seen_total base order.now plan.now firsts.now o.entry.first.now o.entry.second.now o.entry.third.now
+        o.entry.starts.now o.entry.counts.now o.entry.keys.now (seen_count job.now at) n) seens.new seen.new }
 {
     let mut k: usize = 0;
     let mut a: usize = 0;
     for i in 0..n {
         a = seen_rank(
-            job, at, order, plan, n, i, base, stands, firsts, first, second, third, starts, counts,
-            keys, seens, seen, spare, k, a,
+            job, at, order, plan, n, i, base, stands, firsts, o, seens, seen, spare, k, a,
         );
         k += counted(plan[i], i);
     }

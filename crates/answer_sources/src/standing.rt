@@ -29,7 +29,7 @@ fn count_into(plan: &[u32; 256], n: usize, sizes: &mut [u32; 256])
     }
 }
 
-// 1 if one of `among` with so many observations stands as one itself.
+// 1 if one of `among` with so many observations stands as one itself. A number, not a bool: the definition `stands_at` is 1 or 0.
 fn stands_as(observations: u32, among: u32) -> u32
     ensures { result ≡ cond (eqb observations 0 && not (eqb among 1)) 1 0 }
 {

@@ -27,6 +27,7 @@ pub fn print_list(
     let v: ChokesResult = chokes_reduce(job, thresholds, work, answer);
     let number = v.number;
     let detail = v.detail;
+    // The C interface gives a refusal by its number.
     if number != 0 {
         return write_refused(number, detail, out);
     }

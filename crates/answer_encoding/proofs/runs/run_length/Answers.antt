@@ -6,7 +6,7 @@ pub returns : goal.returns
 returns c =
     omega (
       arith,
-      part-long c.args.keys.now (get_or c.args.starts.now c.args.p 0) (get_or c.args.counts.now c.args.p 0),
+      part-long c.args.o.keys.now (get_or c.args.o.starts.now c.args.p 0) (get_or c.args.o.counts.now c.args.p 0),
       c.read_or-a.ensures,
       c.read_or-n.ensures,
     )

@@ -13,9 +13,9 @@ pub loop-q-preserved : goal.loop-q-preserved
 loop-q-preserved c =
     let a = c.args in
     let q = c.loop-q.q in
-    let long = places-long a.first.now a.second.now a.third.now a.starts.now a.counts.now a.keys.now a.seen.now in
+    let long = places-long a.o.first.now a.o.second.now a.o.third.now a.o.starts.now a.o.counts.now a.o.keys.now a.seen.now in
     writes-next _ _ c.loop-q.invariant (omega (arith, long (q + 1))) (omega (arith, long q)) c.write_place.ensures
-    (ap (place_piece a.first.now a.second.now a.third.now a.starts.now a.counts.now a.keys.now) c.read_or-p.ensures)
+    (ap (place_piece a.o.first.now a.o.second.now a.o.third.now a.o.starts.now a.o.counts.now a.o.keys.now) c.read_or-p.ensures)
 
 pub returns : goal.returns
 returns c = writes_end c.loop-q.invariant (omega arith) (omega arith)

@@ -5,4 +5,4 @@ use Rattle.answer_encoding.proofs.sections.write_observations.Given as goal
 
 abbrev pub invariant-loop-q : goal.invariant-loop-q
 invariant-loop-q l =
-    Writes l.initial.s l.to (λ k. place_piece l.first l.second l.third l.starts l.counts l.keys (get_or l.seen k 0)) l.q l.s
+    Writes l.initial.s l.to (λ k. place_piece l.o.first.now l.o.second.now l.o.third.now l.o.starts.now l.o.counts.now l.o.keys.now (get_or l.seen k 0)) l.q l.s

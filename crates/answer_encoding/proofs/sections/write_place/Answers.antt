@@ -8,5 +8,5 @@ returns c =
     let a = c.args in
     c.write_observation.ensures
     ∙ ap (splice a.s.now a.at)
-    (place_is a.first.now a.second.now a.third.now a.starts.now a.counts.now a.keys.now a.p c.read_or.ensures c.read_or-2.ensures
+    (place_is a.o.first.now a.o.second.now a.o.third.now a.o.starts.now a.o.counts.now a.o.keys.now a.p c.read_or.ensures c.read_or-2.ensures
     c.read_or-3.ensures c.span_of-e.ensures c.bits_of-bits.ensures c.run_length.ensures)

@@ -10,8 +10,8 @@ overflow_add-t c = omega (arith, c.loop-i.invariant.small)
 
 pub loop-i-preserved : goal.loop-i-preserved
 loop-i-preserved c =
-    cited-next c.args.seen.now c.args.starts.now c.args.counts.now c.args.keys.now c.read_or-p.result c.run_length.result (omega arith)
+    cited-next c.args.seen.now c.args.o.starts.now c.args.o.counts.now c.args.o.keys.now c.read_or-p.result c.run_length.result (omega arith)
     c.loop-i.invariant (omega arith) c.read_or-p.ensures c.run_length.ensures
 
 pub returns : goal.returns
-returns c = cited-end c.args.seen.now c.args.starts.now c.args.counts.now c.args.keys.now c.loop-i.invariant (omega arith)
+returns c = cited-end c.args.seen.now c.args.o.starts.now c.args.o.counts.now c.args.o.keys.now c.loop-i.invariant (omega arith)

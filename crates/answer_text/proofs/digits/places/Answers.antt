@@ -5,9 +5,6 @@ use Rattle.answer_text.proofs.digits.places.Goals as goal
 pub loop-rest-init : goal.loop-rest-init
 loop-rest-init c = counted_start _
 
-pub overflow_add-k : goal.overflow_add-k
-overflow_add-k c = omega (arith, c.loop-rest.invariant.small)
-
 pub loop-rest-preserved : goal.loop-rest-preserved
 loop-rest-preserved c = counted_next c.loop-rest.invariant (omega arith)
 

@@ -5,17 +5,8 @@ use Rattle.answer_text.proofs.digits.write_digits.Goals as goal
 pub loop-i-init : goal.loop-i-init
 loop-i-init c = spelt-start c.requires.2
 
-pub nonzero_rem-rest : goal.nonzero_rem-rest
-nonzero_rem-rest c = omega (arith, c.requires.0)
-
 pub glyph-requires : goal.glyph-requires
 glyph-requires c = remainder-small _ c.requires.0 c.requires.1
-
-pub bounds-out-at : goal.bounds-out-at
-bounds-out-at c = omega (arith, c.loop-i.invariant.size, c.loop-i.invariant.fits)
-
-pub nonzero_div-rest : goal.nonzero_div-rest
-nonzero_div-rest c = omega (arith, c.requires.0)
 
 pub loop-i-preserved : goal.loop-i-preserved
 loop-i-preserved c = rw c.glyph.ensures (spelt-next c.loop-i.invariant (omega arith))
