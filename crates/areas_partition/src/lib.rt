@@ -13,7 +13,7 @@ use areas_components::{components, write_dues, zero_fill};
 use areas_steps::spans::mark_spans;
 
 // The number of areas, and that of region pairs: one more than the arrays hold where they are over that. A number, not a Result: the labels
-// and counts hold where the pairs are over.
+// and the areas hold where the pairs are over.
 #[derive(Clone, Copy)]
 pub struct Partition {
     pub areas: u32,

@@ -1,5 +1,4 @@
-use mathlib.Core.Bool.{◌&&◌}
-use Rattle.std.proofs.Common.{◌∙◌, refl, ap, ap₂, arith}
+use Rattle.std.proofs.Common.{◌∙◌, refl, ap, arith}
 use Rattle.grid.proofs.Reach.{grid_of, beside-on, across-on, place-column, place-row, place-on}
 use Rattle.grid.proofs.Steps.{leads-means}
 use Rattle.grid.specs.Cells.{walkable}
@@ -33,7 +32,6 @@ pub returns : goal.returns
 returns c =
     let g = grid_of c.args.width c.args.height c.args.cells.now in
     let p = c.requires.0 in
-    λ k j e f.
-    rw (e, f)
-    (ap₂ ◌&&◌ (c.walkable_at.ensures g refl ∙ ap (walkable g) (c.beside.ensures g _ refl (place-column p) (place-row p)))
-    (c.walkable_at-2.ensures g refl ∙ ap (walkable g) (c.across.ensures g _ refl (place-column p) (place-row p))))
+    let first = c.walkable_at.ensures g refl ∙ ap (walkable g) (c.beside.ensures g _ refl (place-column p) (place-row p)) in
+    let second = c.walkable_at-2.ensures g refl ∙ ap (walkable g) (c.across.ensures g _ refl (place-column p) (place-row p)) in
+    λ k j e f. rw (e, f, ← first, ← second) (grind arith)

@@ -1,4 +1,4 @@
-use Rattle.std.proofs.Common.{◌≡◌, ◌∙◌, refl, sym}
+use Rattle.std.proofs.Common.{◌∙◌, refl, sym}
 use Rattle.grid.proofs.Reach.{leads-told, nowhere, blocked, straight, slanting}
 use Rattle.grid.proofs.neighbors.step_at.Goals as goal
 

@@ -1,5 +1,4 @@
-use Rattle.std.proofs.Common.{◌≡◌, ◌+◌, ◌*◌, ◌≤◌, Some, arith}
-use native.Mathlib.Nat.{mul-le-mul}
+use Rattle.std.proofs.Common.{arith}
 use Rattle.grid.proofs.OnMap.{past-columns, past-rows, on-map}
 use Rattle.grid.proofs.map.TerrainGrid.index.Goals as goal
 
