@@ -61,7 +61,7 @@ impl CellBytes {
         self.byte_at(work, k - 1)
     }
 
-    // The due byte of any cell, and of one that is not the first and has a cell below it.
+    // The due byte of any cell, and of one that is not the first and has a cell below it. Two, not one: the second has no tests, and most cells are such.
     fn due_any(self, work: &[u8], i: usize) -> u8
         requires { (self.base + self.n ≤ length work.now) × (i + self.width < 4294967296) }
         ensures { result ≡ due_byte self.width (part work.now self.base self.n) i }
