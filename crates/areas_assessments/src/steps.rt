@@ -14,7 +14,7 @@ use grid::neighbors::{has_direction, place_to, step_at};
 use position::{Span, WalkPosition};
 use wire::read_u32;
 
-// How many steps a span removes, of those how many part two areas, and the end of its pairs in the arrays.
+// How many steps a span removes, of those how many part two areas, and the end of its pairs in the arrays. Not a tuple: clauses read the three by name.
 #[derive(Clone, Copy)]
 pub struct Assessed {
     pub removed: u32,

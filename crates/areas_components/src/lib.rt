@@ -9,6 +9,7 @@ ghost use Rattle.areas_components.specs.Dues.{dues};
 ghost use Rattle.areas_components.specs.Joining.{OpenBytesSound};
 ghost use Rattle.areas_components.specs.Numbered.{ComponentLabels};
 
+mod cells; // where the bytes of cells stand
 mod parents; // the parents of cells: start, find, join
 mod dues; // the due bytes
 mod runs; // the parents of cells in a run
@@ -18,11 +19,11 @@ mod counts; // what is read from labels, and zeros
 mod area; // one area: its label, and how many cells have it
 
 pub use area::{PartitionArea, partition_area};
+use cells::CellBytes;
 pub use counts::{count_cells, zero_fill};
 pub use dues::write_dues;
 use numbers::number;
 use runs::run_parents;
-use steps::join_all;
 
 // Labels the cells of a map by the components that the open bytes at `base` make, which the due bytes stand after: u32 words at the start of
 // `work`. Gives the number of labels.
@@ -36,6 +37,11 @@ pub fn components(cells: &[u8], width: u32, work: &mut [u8], base: usize) -> u32
 {
     let n = cells.len();
     run_parents(work, base, n);
-    join_all(work, base + n, n, width as usize);
+    let dues = CellBytes {
+        base: base + n,
+        n,
+        width: width as usize,
+    };
+    dues.join_all(work);
     number(cells, work)
 }

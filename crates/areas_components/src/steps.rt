@@ -3,6 +3,7 @@ ghost use Rattle.std.specs.Prelude.{◌≡◌, true, List, ℕ, ◌+◌, ◌≤�
 ghost use Rattle.wire.specs.Bytes.{part};
 ghost use Rattle.areas_components.specs.Joining.{WordsReady, JoinedFrom, Joinable, Joining, JoinedAll};
 
+use crate::cells::CellBytes;
 use crate::parents::join_if;
 
 // Bit k of the byte of a cell: to the right; below to the left, below, below to the right.
@@ -26,17 +27,6 @@ fn join_cell(work: &mut [u8], width: usize, i: usize, byte: u8)
     join_bits(work, width, i, byte);
 }
 
-// Joins the cells from `from` up to `to` to those that their bytes lead to.
-fn join_some(work: &mut [u8], base: usize, n: usize, width: usize, from: usize, to: usize)
-    requires { Joinable n width base work.old × (from ≤ to) × (to ≤ n) }
-    ensures { (s : List ℕ) → Joining n width base from s work.old → Joining n width base to s work.new }
-{
-    for i in from..to {
-        let byte = work[base + i];
-        join_cell(work, width, i, byte);
-    }
-}
-
 // The 64 bytes from `at` on are 0.
 fn clear(work: &[u8], at: usize) -> bool
     requires { at + 64 ≤ length work.now }
@@ -49,24 +39,37 @@ fn clear(work: &[u8], at: usize) -> bool
     most == 0
 }
 
-// Joins 64 cells; there is nothing to do where their bytes are 0.
-fn join_block(work: &mut [u8], base: usize, n: usize, width: usize, i: usize)
-    requires { Joinable n width base work.old × (i + 64 ≤ n) }
-    ensures { (s : List ℕ) → Joining n width base i s work.old → Joining n width base (i + 64) s work.new }
-{
-    if clear(work, base + i) {
-        return;
+impl CellBytes {
+    // Joins the cells from `from` up to `to` to those that their bytes lead to.
+    fn join_some(self, work: &mut [u8], from: usize, to: usize)
+        requires { Joinable self.n self.width self.base work.old × (from ≤ to) × (to ≤ self.n) }
+        ensures { (s : List ℕ) → Joining self.n self.width self.base from s work.old → Joining self.n self.width self.base to s work.new }
+    {
+        for i in from..to {
+            let byte = work[self.base + i];
+            join_cell(work, self.width, i, byte);
+        }
     }
-    join_some(work, base, n, width, i, i + 64);
-}
 
-pub fn join_all(work: &mut [u8], base: usize, n: usize, width: usize)
-    requires { Joinable n width base work.old }
-    ensures { JoinedAll n width (part work.old base n) work.old work.new }
-{
-    let blocks = n / 64;
-    for k in 0..blocks {
-        join_block(work, base, n, width, 64 * k);
+    // Joins 64 cells; there is nothing to do where their bytes are 0.
+    fn join_block(self, work: &mut [u8], i: usize)
+        requires { Joinable self.n self.width self.base work.old × (i + 64 ≤ self.n) }
+        ensures { (s : List ℕ) → Joining self.n self.width self.base i s work.old → Joining self.n self.width self.base (i + 64) s work.new }
+    {
+        if clear(work, self.base + i) {
+            return;
+        }
+        self.join_some(work, i, i + 64);
     }
-    join_some(work, base, n, width, 64 * blocks, n);
+
+    pub(crate) fn join_all(self, work: &mut [u8])
+        requires { Joinable self.n self.width self.base work.old }
+        ensures { JoinedAll self.n self.width (part work.old self.base self.n) work.old work.new }
+    {
+        let blocks = self.n / 64;
+        for k in 0..blocks {
+            self.join_block(work, 64 * k);
+        }
+        self.join_some(work, 64 * blocks, self.n);
+    }
 }

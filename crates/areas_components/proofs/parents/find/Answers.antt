@@ -4,9 +4,6 @@ use Rattle.areas_components.proofs.FindLaws.{finding-start, finding-falls, findi
 use Rattle.areas_components.proofs.FindLaws.{finding-second}
 use Rattle.areas_components.proofs.parents.find.Goals as goal
 
-pub parent-p-requires : goal.parent-p-requires
-parent-p-requires c = c.requires.room
-
 pub loop-p-init : goal.loop-p-init
 loop-p-init c = finding-start _ _ _ c.parent-p.ensures.0
 
@@ -15,11 +12,6 @@ parent-q-requires c =
     let loop = c.loop-p in
     let pre = c.requires in
     finding-room pre loop.invariant loop.p (omega (arith, finding-falls pre loop.invariant, loop.invariant.below))
-
-pub shape_of-work-then-q-p : goal.shape_of-work-then-q-p
-shape_of-work-then-q-p c =
-    let loop = c.loop-p in
-    (loop.invariant.kept (c.args.i + 1) (omega arith)).size
 
 pub returns-then-q-p : goal.returns-then-q-p
 returns-then-q-p c =
@@ -55,10 +47,6 @@ loop-p-preserved c =
     let pre = c.requires in
     finding-next pre c.loop-p.invariant _ second.ensures.0 second.ensures.1
     _ c.set_parent.ensures _ c.parent-p-in-loop-p.ensures.0
-
-pub shape_of-work : goal.shape_of-work
-shape_of-work c =
-    (c.loop-p.invariant.kept (c.args.i + 1) (omega arith)).size
 
 pub returns : goal.returns
 returns c =

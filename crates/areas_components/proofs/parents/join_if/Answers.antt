@@ -2,10 +2,6 @@ use Rattle.areas_components.proofs.JoinLaws.{joined-none}
 use Rattle.areas_components.proofs.StepLaws.{joined-on, joined-off}
 use Rattle.areas_components.proofs.parents.join_if.Goals as goal
 
-pub join-requires : goal.join-requires
-join-requires c =
-    (c.requires.0, c.requires.1 c.if-on.true)
-
 pub returns-then-on : goal.returns-then-on
 returns-then-on c =
     joined-on c.if-on.true c.join.ensures

@@ -5,9 +5,6 @@ use lib.ListN.{get_or}
 use Rattle.areas_components.proofs.StepLaws.{most-next}
 use Rattle.areas_components.proofs.steps.clear.Goals as goal
 
-pub loop-k-init : goal.loop-k-init
-loop-k-init c = (omega arith, λ j l. absurd (omega arith))
-
 pub loop-k-preserved : goal.loop-k-preserved
 loop-k-preserved c =
     let loop = c.loop-k in

@@ -4,7 +4,7 @@ use Prim.Native.Nat.{ℕ, ◌*◌, ◌/◌}
 use native.Mathlib.Omega.{arith}
 use Rattle.areas_components.specs.Joining.{Joining}
 use Rattle.areas_components.proofs.StepLaws.{joining-start, joinable-kept, joining-end}
-use Rattle.areas_components.proofs.steps.join_all.Goals as goal
+use Rattle.areas_components.proofs.cells.CellBytes.join_all.Goals as goal
 
 joining_to : {n width base i j : ℕ} {s w : List ℕ} → Joining n width base i s w → i ≡ j → Joining n width base j s w
 joining_to {n} {width} {base} {s = s} {w} h e = subst (λ (k : ℕ). Joining n width base k s w) e h

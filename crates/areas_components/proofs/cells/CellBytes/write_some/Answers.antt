@@ -1,6 +1,6 @@
 use native.Mathlib.Omega.{arith}
 use Rattle.areas_components.proofs.DueBytes.{writing_start, writing-next, writing-end}
-use Rattle.areas_components.proofs.dues.write_some.Goals as goal
+use Rattle.areas_components.proofs.cells.CellBytes.write_some.Goals as goal
 
 pub loop-i-init : goal.loop-i-init
 loop-i-init g c = writing_start _ c.requires.in_bounds.1

@@ -1,5 +1,5 @@
 use Rattle.areas_components.proofs.DueBytes.{due-from}
-use Rattle.areas_components.proofs.dues.due_any.Goals as goal
+use Rattle.areas_components.proofs.cells.CellBytes.due_any.Goals as goal
 
 pub returns : goal.returns
 returns c =

@@ -1,7 +1,7 @@
 use Prim.Native.Nat.{◌-◌}
 use native.Mathlib.Omega.{arith}
 use Rattle.areas_components.proofs.StepLaws.{joinable-ready, partly-start, partly-next, partly-end}
-use Rattle.areas_components.proofs.steps.join_some.Goals as goal
+use Rattle.areas_components.proofs.cells.CellBytes.join_some.Goals as goal
 
 pub loop-i-init : goal.loop-i-init
 loop-i-init c = partly-start c.requires.0 c.requires.1

@@ -1,5 +1,5 @@
 use Rattle.areas_components.proofs.StepLaws.{joining-skip}
-use Rattle.areas_components.proofs.steps.join_block.Goals as goal
+use Rattle.areas_components.proofs.cells.CellBytes.join_block.Goals as goal
 
 pub returns-then-clear : goal.returns-then-clear
 returns-then-clear c =

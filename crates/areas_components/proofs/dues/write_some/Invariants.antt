@@ -1,5 +1,0 @@
-use Rattle.areas_components.proofs.DueBytes.{Writing}
-use Rattle.areas_components.proofs.dues.write_some.Given as goal
-
-abbrev pub invariant-loop-i : goal.invariant-loop-i
-invariant-loop-i g l = Writing l.n l.width l.base l.from l.to l.i l.initial.work l.work

@@ -1,6 +1,0 @@
-use Prim.Native.Nat.{◌-◌}
-use Rattle.areas_components.proofs.StepLaws.{Partly}
-use Rattle.areas_components.proofs.steps.join_some.Given as goal
-
-abbrev pub invariant-loop-i : goal.invariant-loop-i
-invariant-loop-i l = Partly l.n l.width l.base l.from l.to l.i l.initial.work l.work

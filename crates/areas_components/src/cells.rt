@@ -1,0 +1,8 @@
+// Where the bytes of a map's cells stand in lent bytes: n of them from `base` on, `width` in a row.
+
+#[derive(Clone, Copy)]
+pub(crate) struct CellBytes {
+    pub(crate) base: usize,
+    pub(crate) n: usize,
+    pub(crate) width: usize,
+}
