@@ -7,50 +7,39 @@ ghost use Rattle.graph.specs.Slices.{Graph, Owners};
 ghost use Rattle.serial_walk.specs.Walk.{RecordTouches};
 ghost use Rattle.serial_walk.specs.Slices.{Sized, IncidenceLists, Hand, Chained, LeadsOn, Between};
 
-use crate::frame::{Frame, after, opened, other_end};
+use crate::frame::{Frame, Records};
 use crate::stack::{enter, leave, load, save, time_of};
 
 // Looks at the frame's records from its next one on. Gives the frame at the first that leads to a region that is not found, and that region, or the frame
 // behind its last record.
-fn scan(
-    lefts: &[u32],
-    rights: &[u32],
-    count: u32,
-    left_nexts: &[u32],
-    right_nexts: &[u32],
-    disc: &[u32],
-    mut f: Frame,
-) -> (Frame, Option<u32>)
-    requires chained { Chained count lefts.now rights.now disc.now left_nexts.now right_nexts.now }
-    requires touching { f.next < count → RecordTouches (at lefts.now) (at rights.now) f.next f.region }
+fn scan(records: &Records, disc: &[u32], mut f: Frame) -> (Frame, Option<u32>)
+    requires chained { Chained records.now.count records.now.lefts.now records.now.rights.now disc.now
+        records.now.left_nexts.now records.now.right_nexts.now }
+    requires touching { f.next < records.now.count → RecordTouches (at records.now.lefts.now) (at records.now.rights.now) f.next f.region }
     ensures hand { (owners stack parents nexts lows marks : List ℕ) (r top time : ℕ)
-        → Hand count owners lefts.now rights.now disc.now stack parents nexts lows marks r top time f
-        → Hand count owners lefts.now rights.now disc.now stack parents nexts lows marks r top time result.0 }
-    ensures end { MatchOption result.1 (count ≤ result.0.next) (λ w. LeadsOn count lefts.now rights.now disc.now result.0 w) }
+        → Hand records.now.count owners records.now.lefts.now records.now.rights.now disc.now stack parents nexts lows marks r top time f
+        → Hand records.now.count owners records.now.lefts.now records.now.rights.now disc.now stack parents nexts lows marks r top
+        time result.0 }
+    ensures end { MatchOption result.1 (records.now.count ≤ result.0.next)
+        (λ w. LeadsOn records.now.count records.now.lefts.now records.now.rights.now disc.now result.0 w) }
 {
-    while f.next < count {
+    while f.next < records.count {
         if f.next != f.parent {
-            let w = other_end(lefts, rights, f);
+            let w = records.other_end(f);
             let d = time_of(disc, w);
             if d == 0 {
                 return (f, Some(w));
             }
             f = f.lowered(d);
         }
-        f = f.next_record(after(lefts, left_nexts, right_nexts, f));
+        f = f.next_record(records.after(f));
     }
     (f, None)
 }
 
 // Walks all that is connected with root, an end of record r that was not found before, and marks the bridges there. Gives the time of the last region found.
 fn walk(
-    owners: &[u32],
-    lefts: &[u32],
-    rights: &[u32],
-    count: u32,
-    heads: &[u32],
-    left_nexts: &[u32],
-    right_nexts: &[u32],
+    records: &Records,
     disc: &mut [u32],
     stack: &mut [u32],
     parents: &mut [u32],
@@ -61,11 +50,13 @@ fn walk(
     root: u32,
     start: u32,
 ) -> u32
-    requires { Between count (length heads.now) owners.now lefts.now rights.now disc.old stack.old parents.old nexts.old lows.old
-        marks.old r start × IncidenceLists count (length heads.now) lefts.now rights.now heads.now left_nexts.now right_nexts.now 0
-        × (root < length heads.now) × (at disc.old root ≡ 0) × (root ≡ at lefts.now r) }
-    ensures { Between count (length heads.now) owners.now lefts.now rights.now disc.new
-        stack.new parents.new nexts.new lows.new marks.new (r + 1) result }
+    requires { Between records.now.count (length records.now.heads.now) records.now.owners.now records.now.lefts.now records.now.rights.now
+        disc.old stack.old parents.old nexts.old lows.old marks.old r start
+        × IncidenceLists records.now.count (length records.now.heads.now) records.now.lefts.now records.now.rights.now records.now.heads.now
+        records.now.left_nexts.now records.now.right_nexts.now 0
+        × (root < length records.now.heads.now) × (at disc.old root ≡ 0) × (root ≡ at records.now.lefts.now r) }
+    ensures { Between records.now.count (length records.now.heads.now) records.now.owners.now records.now.lefts.now records.now.rights.now
+        disc.new stack.new parents.new nexts.new lows.new marks.new (r + 1) result }
 {
     let mut time = start + 1;
     enter(
@@ -75,18 +66,18 @@ fn walk(
         nexts,
         lows,
         0,
-        opened(heads, root, count, time),
+        records.opened(root, records.count, time),
     );
     let mut h: usize = 1;
     while 0 < h {
         let top = h - 1;
         let start = load(stack, parents, nexts, lows, top);
-        let (f, found) = scan(lefts, rights, count, left_nexts, right_nexts, disc, start);
+        let (f, found) = scan(records, disc, start);
         if let Some(w) = found {
-            let next = after(lefts, left_nexts, right_nexts, f);
+            let next = records.after(f);
             save(nexts, lows, top, f.next_record(next));
             time += 1;
-            let below = opened(heads, w, f.next, time);
+            let below = records.opened(w, f.next, time);
             enter(disc, stack, parents, nexts, lows, h, below);
             h += 1;
             continue;
@@ -95,7 +86,7 @@ fn walk(
             h = 0;
             continue;
         }
-        leave(disc, stack, lows, owners, marks, top - 1, f);
+        leave(disc, stack, lows, records.owners, marks, top - 1, f);
         h = top;
     }
     time
@@ -103,13 +94,7 @@ fn walk(
 
 // Walks from record r, where its end is not found yet.
 fn visit(
-    owners: &[u32],
-    lefts: &[u32],
-    rights: &[u32],
-    count: u32,
-    heads: &[u32],
-    left_nexts: &[u32],
-    right_nexts: &[u32],
+    records: &Records,
     disc: &mut [u32],
     stack: &mut [u32],
     parents: &mut [u32],
@@ -119,37 +104,25 @@ fn visit(
     r: usize,
     time: u32,
 ) -> u32
-    requires { Between count (length heads.now) owners.now lefts.now rights.now disc.old stack.old parents.old nexts.old lows.old
-        marks.old r time × IncidenceLists count (length heads.now) lefts.now rights.now heads.now left_nexts.now right_nexts.now 0
-        × (r < count) }
-    ensures { Between count (length heads.now) owners.now lefts.now rights.now disc.new
-        stack.new parents.new nexts.new lows.new marks.new (r + 1) result }
+    requires { Between records.now.count (length records.now.heads.now) records.now.owners.now records.now.lefts.now records.now.rights.now
+        disc.old stack.old parents.old nexts.old lows.old marks.old r time
+        × IncidenceLists records.now.count (length records.now.heads.now) records.now.lefts.now records.now.rights.now records.now.heads.now
+        records.now.left_nexts.now records.now.right_nexts.now 0
+        × (r < records.now.count) }
+    ensures { Between records.now.count (length records.now.heads.now) records.now.owners.now records.now.lefts.now records.now.rights.now
+        disc.new stack.new parents.new nexts.new lows.new marks.new (r + 1) result }
 {
-    let root = lefts[r];
+    let root = records.lefts[r];
     if time_of(disc, root) != 0 {
         return time;
     }
     walk(
-        owners,
-        lefts,
-        rights,
-        count,
-        heads,
-        left_nexts,
-        right_nexts,
-        disc,
-        stack,
-        parents,
-        nexts,
-        lows,
-        marks,
-        r,
-        root,
-        time,
+        records, disc, stack, parents, nexts, lows, marks, r, root, time,
     )
 }
 
-// Walks from every record, and marks the bridges, where no region is found yet.
+// Walks from every record, and marks the bridges, where no region is found yet. The arrays that are written aren't a struct of &mut slices as well: a function
+// that lends its arrays to one doesn't learn what they hold after.
 pub fn walk_all(
     owners: &[u32],
     lefts: &[u32],
@@ -170,25 +143,18 @@ pub fn walk_all(
         × Sized (length heads.now) disc.old stack.old parents.old nexts.old lows.old × ((x : ℕ) → at disc.old x ≡ 0) }
     ensures { marks.new ≡ bridge_marks (records_in owners.now lefts.now rights.now count) 256 }
 {
+    let records = Records {
+        owners,
+        lefts,
+        rights,
+        count,
+        heads,
+        left_nexts,
+        right_nexts,
+    };
     *marks = [0u8; 256];
     let mut time = 0;
     for r in 0..count as usize {
-        time = visit(
-            owners,
-            lefts,
-            rights,
-            count,
-            heads,
-            left_nexts,
-            right_nexts,
-            disc,
-            stack,
-            parents,
-            nexts,
-            lows,
-            marks,
-            r,
-            time,
-        );
+        time = visit(&records, disc, stack, parents, nexts, lows, marks, r, time);
     }
 }

@@ -20,7 +20,7 @@ time_of-d-requires c = end-in c.requires.chained.graph c.loop-f-test.true c.othe
 -- the frame moves to the next record in the chain of its region
 pub loop-f-preserved : goal.loop-f-preserved
 loop-f-preserved c =
-    let a = c.args in
+    let a = c.args.records.now in
     let f = c.loop-f.f in
     let g = c.next_record-f.result in
     let k = c.loop-f-test.true in

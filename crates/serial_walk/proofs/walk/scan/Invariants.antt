@@ -7,11 +7,11 @@ use Rattle.serial_walk.proofs.walk.scan.Given as goal
 
 abbrev pub invariant-loop-f : goal.invariant-loop-f
 invariant-loop-f l = record {
-  touching : l.f.next < l.count → RecordTouches (at l.lefts) (at l.rights) l.f.next l.f.region;
+  touching : l.f.next < l.records.count → RecordTouches (at l.records.lefts.now) (at l.records.rights.now) l.f.next l.f.region;
   hand : (owners stack parents nexts lows marks : List ℕ) (r top time : ℕ)
-      → Hand l.count owners l.lefts l.rights l.disc stack parents nexts lows marks r top time l.fn.f
-      → Hand l.count owners l.lefts l.rights l.disc stack parents nexts lows marks r top time l.f;
+      → Hand l.records.count owners l.records.lefts.now l.records.rights.now l.disc stack parents nexts lows marks r top time l.fn.f
+      → Hand l.records.count owners l.records.lefts.now l.records.rights.now l.disc stack parents nexts lows marks r top time l.f;
 }
 
 abbrev pub decreases-loop-f : goal.decreases-loop-f
-decreases-loop-f l = l.count - l.f.next
+decreases-loop-f l = l.records.count - l.f.next

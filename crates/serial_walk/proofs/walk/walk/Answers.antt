@@ -21,7 +21,7 @@ loop-h-init c =
     let p = c.requires in
     recast _ _ _ _ _ _ _ _ (e.0 ∙ set-as a.disc.now o.0 o.3) (e.1 ∙ set-as a.stack.now refl o.0)
     (e.2 ∙ set-as a.parents.now refl o.1) (e.3 ∙ set-as a.nexts.now refl o.2) (e.4 ∙ set-as a.lows.now refl o.3) refl refl refl
-    (rooted p.0 a.root (at a.heads.now a.root) (omega (arith, p.2, p.0.sized.disc-are)) p.3 p.4 (p.1.head a.root p.2))
+    (rooted p.0 a.root (at a.records.now.heads.now a.root) (omega (arith, p.2, p.0.sized.disc-are)) p.3 p.4 (p.1.head a.root p.2))
 
 pub enter-requires-in-Some : goal.enter-requires-in-Some
 enter-requires-in-Some c =
@@ -61,13 +61,13 @@ loop-h-preserved-in-Some c =
     let z = c.after-next.ensures in
     let l = c.load-start.ensures in
     let H = c.scan-found.ensures.hand _ _ _ _ _ _ _ _ _ (take c.load-start.result (unrolled m.invariant c.loop-h-test.true) l.0 l.1 l.2 l.3) in
-    let q : First a.count (at a.lefts.now) (at a.rights.now) (f.next + 1) f.region g.next
-    = subst (First a.count (at a.lefts.now) (at a.rights.now) (f.next + 1) f.region) (sym n.2)
+    let q : First a.records.now.count (at a.records.now.lefts.now) (at a.records.now.rights.now) (f.next + 1) f.region g.next
+    = subst (First a.records.now.count (at a.records.now.lefts.now) (at a.records.now.rights.now) (f.next + 1) f.region) (sym n.2)
     (follows c.requires.1 f.next f.region _ u.within (H.touching u.within) z.left z.right) in
     recast _ _ _ _ _ _ _ _ (e.0 ∙ set-as m.disc o.0 o.3) (e.1 ∙ set-as m.stack refl o.0) (e.2 ∙ set-as m.parents refl o.1)
     (e.3 ∙ ap (λ (x : List ℕ). set x m.h c.opened-below.result.next) s.0 ∙ set-as (set m.nexts (m.h - 1) g.next) refl o.2)
     (e.4 ∙ ap (λ (x : List ℕ). set x m.h c.opened-below.result.low) s.1 ∙ set-as (set m.lows (m.h - 1) g.low) refl o.3) refl refl refl
-    (found_at m.invariant f g c.in-Some.w (at a.heads.now c.in-Some.w) c.loop-h-test.true H u q n.3
+    (found_at m.invariant f g c.in-Some.w (at a.records.now.heads.now c.in-Some.w) c.loop-h-test.true H u q n.3
     (c.requires.1.head c.in-Some.w (omega (arith, u.inside, m.invariant.sized.disc-are))))
 
 pub loop-h-preserved-then-top-eq0 : goal.loop-h-preserved-then-top-eq0
