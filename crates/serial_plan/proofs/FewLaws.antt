@@ -35,11 +35,11 @@ pushed-held x xs = ap (λ (m : ℕ). few m (first_of 16 (x ∷ xs))) (add-one (l
 nearer-near : (x : ℕ) (xs : List ℕ) → near_link (near xs) x ≡ near (x ∷ xs)
 nearer-near x xs = ap (λ (m : ℕ). noted m x) (add-one (length xs))
 
-pub slot-in : (f : Few) (j : ℕ) → j < 16 → get_or f.items j 0 ≡ few_at f j
-slot-in f j h = let e = lt-ltb j 16 h in rw e
+pub slot_in : (f : Few) (j : ℕ) → j < 16 → get_or f.items j 0 ≡ few_at f j
+slot_in f j h = let e = lt-ltb j 16 h in rw e
 
-pub slot-past : (f : Few) (j : ℕ) → 16 ≤ j → 0 ≡ few_at f j
-slot-past f j h = let e = le-ltb j 16 h in rw e
+pub slot_past : (f : Few) (j : ℕ) → 16 ≤ j → 0 ≡ few_at f j
+slot_past f j h = let e = le-ltb j 16 h in rw e
 
 pub slot_held : (xs : List ℕ) (j : ℕ) → few_at (few_of xs) j ≡ cond (ltb j 16) (get_or xs j 0) 0
 unfolding few_of first_of

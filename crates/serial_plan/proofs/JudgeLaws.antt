@@ -14,7 +14,7 @@ use Rattle.order.proofs.Numbers.{up_mem, up-length}
 use Rattle.serial_plan.specs.declared.few.Few.{Few}
 use Rattle.serial_plan.specs.Few.{few_of, few_list}
 use Rattle.serial_plan.specs.Arrays.{LinkRanks}
-use Rattle.serial_plan.specs.Rules.{Sized}
+use Rattle.serial_plan.specs.Rules.{SmallGroup}
 use Rattle.serial_plan.specs.Fitting.{RankFits, LinkFits, WidthFits, RanksFit, Links, Widths, Safe}
 use Rattle.serial_plan.proofs.FewLaws.{listed-held}
 use Rattle.serial_plan.proofs.ShapeLaws.{listed-length, held-count, held-slots}
@@ -25,7 +25,7 @@ pub record Whole (F : List ℕ → List ℕ → Bool) (rs js : List ℕ) (f g : 
   pub ranks : F (few_list f) (few_list g) ≡ true → few_list f ≡ rs
   pub same : F (few_list f) (few_list g) ≡ F rs js
 
-module _ {F : List ℕ → List ℕ → Bool} (small : (rs js : List ℕ) → F rs js ≡ true → Sized rs js) {f g : Few} (rs js : List ℕ) (ef : f ≡ few_of rs)
+module _ {F : List ℕ → List ℕ → Bool} (small : (rs js : List ℕ) → F rs js ≡ true → SmallGroup rs js) {f g : Few} (rs js : List ℕ) (ef : f ≡ few_of rs)
     (eg : g ≡ few_of js) where
   ranks-long : length (few_list f) ≡ length rs
   ranks-long = listed-length f ∙ held-count rs ef
@@ -33,7 +33,7 @@ module _ {F : List ℕ → List ℕ → Bool} (small : (rs js : List ℕ) → F 
   links-long : length (few_list g) ≡ length js
   links-long = listed-length g ∙ held-count js eg
 
-  all_held : Sized (few_list f) (few_list g) → (few_list f ≡ rs) × (few_list g ≡ js)
+  all_held : SmallGroup (few_list f) (few_list g) → (few_list f ≡ rs) × (few_list g ≡ js)
   all_held s = (ap few_list ef ∙ listed-held rs (omega (arith, s.1, ranks-long)), ap few_list eg ∙ listed-held js (omega (arith, s.2, links-long)))
 
   same_test : F (few_list f) (few_list g) ≡ F rs js

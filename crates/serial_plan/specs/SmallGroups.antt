@@ -16,7 +16,7 @@ use Rattle.serial_links.specs.Geometry.{centre_distance}
 use Rattle.order.specs.Tests.{every}
 use Rattle.serial_groups.specs.Flat.{least_flat_spans}
 use Rattle.serial_plan.specs.Arrays.{is_on}
-use Rattle.serial_plan.specs.Rules.{Sized}
+use Rattle.serial_plan.specs.Rules.{SmallGroup}
 use Rattle.serial_plan.specs.Shape.{degree_in, ends_in, chain_in, path_in, all_alike_in}
 use Rattle.serial_plan.specs.declared.tables.Tables.{Tables}
 use Rattle.serial_plan.specs.Tables.{serial_by, flat_by}
@@ -45,7 +45,7 @@ passed-path a b c h = (and_parts a b (and_parts (a && b) c h).0).1
 
 module _ (limits : Limits) (own lowers highers regions firsts seconds : List ℕ) where
   serial-sized : (passing : List ℕ) → limits.most_spans ≤ 16 → (rs js : List ℕ)
-      → serial_in limits own lowers highers regions firsts seconds passing rs js ≡ true → Sized rs js
+      → serial_in limits own lowers highers regions firsts seconds passing rs js ≡ true → SmallGroup rs js
   unfolding serial_in
   serial-sized passing m rs js h =
       let q = passed-path (every (is_on passing) js) (path_in lowers highers regions firsts seconds limits.least_spans limits.most_spans rs js)
@@ -54,7 +54,7 @@ module _ (limits : Limits) (own lowers highers regions firsts seconds : List ℕ
       let s = path-sizes lowers highers regions firsts seconds limits.least_spans limits.most_spans rs js q in
       (omega (arith, s.0), omega (arith, s.1), omega (arith, s.1, s.2))
 
-  flat-sized : limits.most_spans ≤ 16 → (rs js : List ℕ) → flat_in limits own lowers highers regions firsts seconds rs js ≡ true → Sized rs js
+  flat-sized : limits.most_spans ≤ 16 → (rs js : List ℕ) → flat_in limits own lowers highers regions firsts seconds rs js ≡ true → SmallGroup rs js
   unfolding flat_in
   flat-sized m rs js h =
       let p = and_parts (path_in lowers highers regions firsts seconds least_flat_spans limits.most_spans rs js) (all_alike_in limits own rs) h in
@@ -62,8 +62,8 @@ module _ (limits : Limits) (own lowers highers regions firsts seconds : List ℕ
       (omega (arith, s.0), omega (arith, s.1), omega (arith, s.1, s.2))
 
 pub serial-small : (passing : List ℕ) (limits : Limits) (t : Tables) → limits.most_spans ≤ 16 → (rs js : List ℕ) → serial_by limits t passing rs js ≡ true
-    → Sized rs js
+    → SmallGroup rs js
 serial-small passing limits t = serial-sized limits t.own.now t.lowers.now t.highers.now t.regions.now t.firsts.now t.seconds.now passing
 
-pub flat-small : (limits : Limits) (t : Tables) → limits.most_spans ≤ 16 → (rs js : List ℕ) → flat_by limits t rs js ≡ true → Sized rs js
+pub flat-small : (limits : Limits) (t : Tables) → limits.most_spans ≤ 16 → (rs js : List ℕ) → flat_by limits t rs js ≡ true → SmallGroup rs js
 flat-small limits t = flat-sized limits t.own.now t.lowers.now t.highers.now t.regions.now t.firsts.now t.seconds.now

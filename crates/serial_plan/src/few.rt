@@ -2,7 +2,8 @@
 ghost use Rattle.std.specs.Prelude.{◌≡◌, cond, [], ◌<◌};
 ghost use Rattle.serial_plan.specs.Few.{few_of, pushed, few_at};
 
-// Not an ArrayVec: a number comes in before the others, and past sixteen the last is dropped while the count goes on.
+// Not an ArrayVec: a number comes in before the others, and past sixteen the last is dropped, but counted.
+// No ghost field bounds the count: few_of of specs/Few.antt makes one of every list.
 #[derive(Clone, Copy)]
 pub struct Few {
     pub count: u32,
@@ -39,6 +40,7 @@ impl Few {
     }
 
     // Number j, of at most sixteen.
+    #[tactic(auto, using(crate::proofs::FewLaws::slot_in, crate::proofs::FewLaws::slot_past))]
     pub fn get(self, j: u32) -> u32
         ensures { result ≡ few_at self j }
     {

@@ -106,6 +106,7 @@ fn measured_links(
 }
 
 // The rank that each rank goes into, from what the partition and the bridges left in arrays by rank. The table is left as it was.
+// Array by array, not as a struct: analysis calls it so.
 pub fn plan_merges(
     limits: Limits,
     job: &[u8],
