@@ -15,7 +15,7 @@ use Rattle.format.specs.Decode.{decode}
 use Rattle.format.specs.declared.header.Header.{Header}
 use Rattle.checks.specs.Checks.{first_refusal}
 use Rattle.checks.specs.Passed.{Laid}
-use Rattle.checks.specs.Verdict.{meaning, refusal_of, counted}
+use Rattle.checks.specs.Verdict.{meaning, refusal_of, count_or_detail}
 use Rattle.checks.specs.declared.refused.Refused.{Refused}
 use Rattle.checks.specs.declared.refused.Refused.TheVariants.{JobTooShort, BadSides, TooManyRecords, TooManyBoundaries, BadLayout, BadCell, AnchorOffMap}
 use Rattle.checks.specs.declared.refused.Refused.TheVariants.{BadSums, BadRamp, BadWidth, EndOffMap, EndsCoincide, TooManyPairs, BadListLength, TooManySpans}
@@ -60,7 +60,7 @@ pub passed_on : {A : Type 0} (r : Result A Refused) (e : Refused) → IsErrAnd r
 passed_on (Ok x) e h = absurd h
 passed_on (Err x) e h = ap (λ (e : Refused). some (refusal_of e)) h
 
-pub counted_on : (r : Result ℕ Refused) (e : Refused) → IsErrAnd r (λ x. x ≡ e) → counted r ≡ (refusal_of e).detail
+pub counted_on : (r : Result ℕ Refused) (e : Refused) → IsErrAnd r (λ x. x ≡ e) → count_or_detail r ≡ (refusal_of e).detail
 counted_on (Ok x) e h = absurd h
 counted_on (Err x) e h = ap (λ (e : Refused). (refusal_of e).detail) h
 

@@ -3,7 +3,7 @@ ghost use Rattle.std.specs.Prelude.{◌≡◌, ◌*◌, ◌≤◌, length};
 ghost use Rattle.std.proofs.Math.Option.{none};
 ghost use Rattle.format.specs.Decode.{decode};
 ghost use Rattle.checks.specs.Checks.{first_refusal};
-ghost use Rattle.checks.specs.Verdict.{meaning, number_of, detail_of, counted};
+ghost use Rattle.checks.specs.Verdict.{meaning, number_of, detail_of, count_or_detail};
 ghost use Rattle.checks_calls.specs.Refusals.{job_checks};
 ghost use Rattle.results.specs.Returns.{FirstAnswer, PairAnswer};
 
@@ -41,7 +41,7 @@ impl From<Result<(), Refused>> for ChokesResult {
 }
 
 impl From<Result<usize, Refused>> for ChokesResult {
-    ghost from_gives = { λ v r. (r.number ≡ number_of (meaning v)) × (r.detail ≡ counted v) };
+    ghost from_gives = { λ v r. (r.number ≡ number_of (meaning v)) × (r.detail ≡ count_or_detail v) };
 
     // The same of a call that counts: number 0 has the count for its detail.
     fn from(v: Result<usize, Refused>) -> ChokesResult {

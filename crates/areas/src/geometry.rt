@@ -73,14 +73,14 @@ impl Segment {
     }
 
     // The other's ends are strictly on opposite sides.
-    fn parts(self, other: Segment) -> bool
+    fn strictly_opposite(self, other: Segment) -> bool
         ensures { result ≡ opposite self.a self.b other.a other.b }
     {
         (self.below(other.a) & self.above(other.b)) | (self.above(other.a) & self.below(other.b))
     }
 
     // The point is on the segment.
-    fn has(self, point: PixelPosition) -> bool
+    fn on_segment(self, point: PixelPosition) -> bool
         requires { Bounded point }
         ensures { result ≡ on_segment self.a self.b point }
     {
@@ -115,8 +115,8 @@ pub fn segments_intersect(
 {
     let one = Segment { a, b };
     let other = Segment { a: c, b: d };
-    (one.parts(other) & other.parts(one))
-        | ((one.has(c) | one.has(d)) | (other.has(a) | other.has(b)))
+    (one.strictly_opposite(other) & other.strictly_opposite(one))
+        | ((one.on_segment(c) | one.on_segment(d)) | (other.on_segment(a) | other.on_segment(b)))
 }
 
 // The span, whose earlier end is listed first, cuts the segment between two positions.

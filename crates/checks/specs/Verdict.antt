@@ -58,6 +58,6 @@ detail_of none = 0
 detail_of (some r) = r.detail
 
 -- The detail of an answer that counts: its count, or that of its refusal.
-abbrev pub counted : Result ℕ Refused → ℕ
-counted (Ok n) = n
-counted (Err e) = (refusal_of e).detail
+abbrev pub count_or_detail : Result ℕ Refused → ℕ
+count_or_detail (Ok n) = n
+count_or_detail (Err e) = (refusal_of e).detail

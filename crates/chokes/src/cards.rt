@@ -2,7 +2,7 @@
 ghost use Rattle.std.specs.Prelude.{◌≡◌};
 ghost use Rattle.format.specs.Decode.{decode};
 ghost use Rattle.checks.specs.Numbers.{slice_too_short};
-ghost use Rattle.checks.specs.Verdict.{meaning, number_of, counted};
+ghost use Rattle.checks.specs.Verdict.{meaning, number_of, count_or_detail};
 ghost use Rattle.grid.specs.Directions.{directions_of};
 ghost use Rattle.analysis.specs.Plans.{Leads, OwnJob};
 ghost use Rattle.results.specs.Calls.{cards_result};
@@ -49,7 +49,7 @@ fn finish_cards(
 ) -> Result<usize, Refused>
     requires { CellsLabelled job.now h areas work.now }
     ensures { Finished slice_too_short (cards_in job.now work.now areas) cards.old cards.new
-        (number_of (meaning result)) (counted result) }
+        (number_of (meaning result)) (count_or_detail result) }
 {
     let c = h.counts;
     let n = (c.width * c.height) as usize;
@@ -70,7 +70,7 @@ fn finish_cards(
 
 // Gives the bytes of the cards.
 fn area_cards(job: &[u8], work: &mut [u8], cards: &mut [u8]) -> Result<usize, Refused>
-    ensures { left_by (number_of (meaning result)) (counted result) work.new cards.new ≡ cards_result job.now work.old
+    ensures { left_by (number_of (meaning result)) (count_or_detail result) work.new cards.new ≡ cards_result job.now work.old
         cards.old }
 {
     check_room(check_reduce(job), job, WORK_PER_CELL, work.len())?;

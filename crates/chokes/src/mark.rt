@@ -2,7 +2,7 @@
 ghost use Rattle.std.specs.Prelude.{◌≡◌, ◌≤◌, ◌<◌, length};
 ghost use Rattle.format.specs.Decode.{decode};
 ghost use Rattle.grid.specs.Directions.{directions_of};
-ghost use Rattle.checks.specs.Verdict.{meaning, number_of, counted};
+ghost use Rattle.checks.specs.Verdict.{meaning, number_of, count_or_detail};
 ghost use Rattle.analysis.specs.Plans.{Leads, OwnJob};
 ghost use Rattle.results.specs.Calls.{mark_result};
 ghost use Rattle.chokes.specs.Marking.{Analysed, first_copied};
@@ -53,7 +53,7 @@ fn copy_first(from: &[u8; 256], n: usize, to: &mut [u8])
 
 // Gives the number of boundaries.
 fn mark(job: &[u8], work: &mut [u8], marks: &mut [u8]) -> Result<usize, Refused>
-    ensures { left_by (number_of (meaning result)) (counted result) work.new marks.new ≡ mark_result job.now work.old
+    ensures { left_by (number_of (meaning result)) (count_or_detail result) work.new marks.new ≡ mark_result job.now work.old
         marks.old }
 {
     check_room(check_mark(job), job, WORK_PER_CELL, work.len())?;

@@ -5,7 +5,7 @@ ghost use Rattle.results.specs.Calls.{reduce_result, reduce_by_list_result};
 ghost use Rattle.results.specs.Results.{left_by};
 ghost use Rattle.results.specs.Returns.{Finished};
 ghost use Rattle.checks.specs.Numbers.{answer_too_short};
-ghost use Rattle.checks.specs.Verdict.{meaning, number_of, counted};
+ghost use Rattle.checks.specs.Verdict.{meaning, number_of, count_or_detail};
 ghost use Rattle.analysis.specs.Plans.{answer_bytes};
 ghost use Rattle.answer_encoding.specs.Answered.{Answerable};
 
@@ -25,7 +25,7 @@ fn finish(
 ) -> Result<usize, Refused>
     requires { Answerable job.now (header_at job.now) order.now }
     ensures { Finished answer_too_short (answer_bytes job.now order.now plan.now) answer.old
-        answer.new (number_of (meaning result)) (counted result) }
+        answer.new (number_of (meaning result)) (count_or_detail result) }
 {
     let room = answer.len();
     let h = read_header(job);
@@ -43,7 +43,7 @@ fn reduce(
     work: &mut [u8],
     answer: &mut [u8],
 ) -> Result<usize, Refused>
-    ensures { left_by (number_of (meaning result)) (counted result) work.new answer.new ≡ reduce_result job.now thresholds.now
+    ensures { left_by (number_of (meaning result)) (count_or_detail result) work.new answer.new ≡ reduce_result job.now thresholds.now
         work.old answer.old }
 {
     check_thresholds(thresholds)?;
@@ -75,7 +75,7 @@ fn reduce_by_list(
     work: &mut [u8],
     answer: &mut [u8],
 ) -> Result<usize, Refused>
-    ensures { left_by (number_of (meaning result)) (counted result) work.new answer.new ≡ reduce_by_list_result job.now list.now
+    ensures { left_by (number_of (meaning result)) (count_or_detail result) work.new answer.new ≡ reduce_by_list_result job.now list.now
         thresholds.now work.old answer.old }
 {
     check_thresholds(thresholds)?;

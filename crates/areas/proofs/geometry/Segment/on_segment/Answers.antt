@@ -1,5 +1,5 @@
 use Rattle.areas.specs.Segments.{on_segment}
-use Rattle.areas.proofs.geometry.Segment.has.Goals as goal
+use Rattle.areas.proofs.geometry.Segment.on_segment.Goals as goal
 
 pub returns : goal.returns
 unfolding on_segment

@@ -1,7 +1,7 @@
 use mathlib.Core.Path.{ap₂}
 use mathlib.Core.Bool.{◌&&◌, ◌||◌}
 use Rattle.areas.specs.Segments.{opposite}
-use Rattle.areas.proofs.geometry.Segment.parts.Goals as goal
+use Rattle.areas.proofs.geometry.Segment.strictly_opposite.Goals as goal
 
 pub returns : goal.returns
 unfolding opposite
