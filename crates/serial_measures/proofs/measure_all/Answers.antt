@@ -53,6 +53,16 @@ loop-i-preserved-then-number-eq0 c =
       running = turn-out c.requires.4 c.loop-i-test.true inv.running number.result number.ensures (omega (arith, c.if-number-eq0.true));
     }
 
+pub bounds-stats-j-in-loop-i : goal.bounds-stats-j-in-loop-i
+bounds-stats-j-in-loop-i c =
+    let number = c.number_at-number in
+    let j : number.result - 1 ≡ number.result - 1 = refl in
+    omega (
+      arith,
+      turn_on c.requires.4 c.loop-i-test.true c.loop-i.invariant.running number.result number.ensures (λ z. omega (arith, z, c.if-number-eq0.false)) j,
+      c.requires.4.few,
+    )
+
 pub with-requires : goal.with-requires
 with-requires c =
     let p = c.requires in
