@@ -10,12 +10,12 @@ use lib.Seq.{get_or-set_same, get_or-set_other}
 use Rattle.lists.specs.Rows.{at}
 use Rattle.serial_walk.proofs.Zeros.{Upd, zeros-pos}
 use Rattle.serial_walk.specs.Walk.{RecordJoins, RecordTouches, First, Walk}
-use Rattle.serial_walk.specs.Slices.{put, Sized, OwnerMarked, Between, Hand}
+use Rattle.serial_walk.specs.Slices.{put, Sized, OwnerMarked, Between}
 use Rattle.serial_walk.specs.declared.frame.Frame.{Frame}
 use Rattle.serial_walk.proofs.Retell.{retell}
 use Rattle.serial_walk.proofs.Pushes.{push}
 use Rattle.serial_walk.proofs.Puts.{put-at, put-off, set-put}
-use Rattle.serial_walk.proofs.Turn.{Loop, resized}
+use Rattle.serial_walk.proofs.Turn.{Loop, Hand, resized}
 
 -- a frame at region w, entered over record j, goes on the stack; v is the first record that touches w
 module _ (K : ℕ) {R : ℕ} (owners lefts rights disc stack parents marks : List ℕ) {nx lw : ℕ → ℕ} {r h time : ℕ}

@@ -1,16 +1,16 @@
 -- The turns by the stack's height, and the room that it leaves.
 use Prim.Native.Nat.{ℕ, ◌+◌, ◌-◌, ◌≤◌, ◌<◌, min}
 use native.Mathlib.Omega.{arith}
-use mathlib.Core.Path.{◌≡◌, sym, ◌∙◌, ap, subst}
+use mathlib.Core.Path.{◌≡◌, sym, ◌∙◌, ap, subst, subst₂}
 use mathlib.Core.List.{List}
 use lib.ListN.{length, set, length-set}
 use lib.Seq.{get_or-set_same, get_or-set_other}
 use Rattle.lists.specs.Rows.{at}
 use Rattle.serial_walk.proofs.Zeros.{zeros-pos, zeros-upd}
 use Rattle.serial_walk.specs.Walk.{zero_count, First}
-use Rattle.serial_walk.specs.Slices.{marking, Hand, LeadsOn}
+use Rattle.serial_walk.specs.Slices.{marking}
 use Rattle.serial_walk.specs.declared.frame.Frame.{Frame}
-use Rattle.serial_walk.proofs.Turn.{Loop}
+use Rattle.serial_walk.proofs.Turn.{Loop, Hand, Stop}
 use Rattle.serial_walk.proofs.Entering.{found}
 use Rattle.serial_walk.proofs.Leaving.{left, emptied}
 
@@ -36,18 +36,19 @@ module _ {K R : ℕ} {owners lefts rights disc stack parents nexts lows marks : 
       (record { at = get_or-set_same disc w v 0 on; off = λ k e. get_or-set_other disc w k v 0 e }) on new p
 
   -- the frame in hand finds a region
-  pub found_at : (f g : Frame) (w v : ℕ) → 0 < h → Hand K owners lefts rights disc stack parents nexts lows marks r (h - 1) time f
-      → LeadsOn K lefts rights disc f w →
+  pub found_at : (f g : Frame) (w j v : ℕ) → 0 < h → Hand K owners lefts rights disc stack parents nexts lows marks r (h - 1) time f
+      → Stop K R lefts rights disc f w j → j < K →
       First K (at lefts) (at rights) (f.next + 1) f.region g.next → g.low ≡ f.low → First K (at lefts) (at rights) 0 w v →
-      Loop K R owners lefts rights (set disc w (time + 1)) (set stack h w) (set parents h f.next) (set (set nexts (h - 1) g.next) h v)
+      Loop K R owners lefts rights (set disc w (time + 1)) (set stack h w) (set parents h j) (set (set nexts (h - 1) g.next) h v)
       (set (set lows (h - 1) g.low) h (time + 1)) marks
       r (h + 1) (time + 1)
-  found_at f g w v l H S gn gl fv =
-      subst
-      (λ (x : ℕ). Loop K R owners lefts rights (set disc w (time + 1)) (set stack x w) (set parents x f.next) (set (set nexts (h - 1) g.next) x v)
+  found_at f g w j v l H S k gn gl fv =
+      subst₂
+      (λ (x y : ℕ). Loop K R owners lefts rights (set disc w (time + 1)) (set stack x w) (set parents x y) (set (set nexts (h - 1) g.next) x v)
       (set (set lows (h - 1) g.low) x (time + 1)) marks r (x + 1) (time + 1))
       (let z : h - 1 + 1 ≡ h = omega arith in z)
-      (found f g w v (unrolled l) H S.within S.joins S.inside S.new gn gl fv)
+      (sym (S.is k))
+      (found f g w v (unrolled l) H (omega (arith, S.is k)) (S.joins k) (omega (arith, S.within k, L.sized.disc-are)) (S.new k) gn gl fv)
 
   pub leaving : (f : Frame) → 0 < h → (h - 1 ≡ 0 → ⊥) → Hand K owners lefts rights disc stack parents nexts lows marks r (h - 1) time f →
       (h - 1 - 1 < length stack) × (at stack (h - 1 - 1) < length disc) × (h - 1 - 1 < length lows) × (f.parent < length owners)

@@ -11,12 +11,12 @@ use lib.Seq.{get_or-set_same, get_or-set_other}
 use borrow.Author.Tests.{lt-ltb, le-ltb}
 use Rattle.lists.specs.Rows.{at}
 use Rattle.serial_walk.specs.Walk.{Parted, Walk}
-use Rattle.serial_walk.specs.Slices.{put, MarksSound, OwnerMarked, Stacked, marking, Hand}
+use Rattle.serial_walk.specs.Slices.{put, MarksSound, OwnerMarked, Stacked, marking}
 use Rattle.serial_walk.specs.declared.frame.Frame.{Frame}
 use Rattle.serial_walk.proofs.Retell.{retell}
 use Rattle.serial_walk.proofs.Pops.{is-bridge, not-bridge, pop, pop-root}
 use Rattle.serial_walk.proofs.Puts.{put-at, put-off, putting}
-use Rattle.serial_walk.proofs.Turn.{Loop, resized}
+use Rattle.serial_walk.proofs.Turn.{Loop, Hand, resized}
 
 -- the mark that a frame's end leaves
 pub mark_set : (d low : ℕ) (marks : List ℕ) (b : ℕ) → d < low → set marks b 1 ≡ marking d low marks b

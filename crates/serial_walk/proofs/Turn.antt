@@ -9,7 +9,7 @@ use lib.ListN.{length}
 use Rattle.lists.specs.Rows.{at}
 use Rattle.serial_walk.specs.Walk.{RecordJoins, forth, back, RecordTouches, First}
 use Rattle.graph.specs.Slices.{Graph, Owners}
-use Rattle.serial_walk.specs.Slices.{put, Sized, MarksSound, Stacked, Hand}
+use Rattle.serial_walk.specs.Slices.{put, Sized, MarksSound, Stacked, FrameInHand}
 use Rattle.serial_walk.specs.declared.frame.Frame.{Frame}
 use Rattle.serial_walk.proofs.Retell.{retell}
 use Rattle.serial_walk.proofs.Scans.{scan-parent, scan-seen}
@@ -26,6 +26,21 @@ pub record Loop (K R : ℕ) (owners lefts rights disc stack parents nexts lows m
   pub begun : 0 < at disc (at lefts r)
   -- each frame's next record touches its region
   pub touching : (m : ℕ) → m < h → at nexts m < K → RecordTouches (at lefts) (at rights) (at nexts m) (at stack m)
+
+-- the last frame in hand is that of the stack, with its own next record and low
+pub record Hand (K : ℕ) (owners lefts rights disc stack parents nexts lows marks : List ℕ) (r top time : ℕ) (f : Frame) : Type 0 where
+  pub walk : FrameInHand K owners lefts rights r disc stack parents nexts lows marks top time f
+  pub region : f.region ≡ at stack top
+  pub parent : f.parent ≡ at parents top
+  pub touching : f.next < K → RecordTouches (at lefts) (at rights) f.next f.region
+
+-- how the inner loop stopped
+pub record Stop (K R : ℕ) (lefts rights disc : List ℕ) (f : Frame) (w j : ℕ) : Type 0 where
+  pub is : j < K → j ≡ f.next
+  pub joins : j < K → RecordJoins (at lefts) (at rights) f.next f.region w
+  pub within : j < K → w < R
+  pub new : j < K → at disc w ≡ 0
+  pub all : K ≤ j → K ≤ f.next
 
 -- the region that a record leads to is in range
 pub end-in : {K R : ℕ} {lefts rights : List ℕ} {j x w : ℕ} → Graph K R lefts rights → j < K → RecordJoins (at lefts) (at rights) j x w → w < R

@@ -3,7 +3,7 @@ use Rattle.std.specs.Prelude.{◌≡◌, ◌⊎◌, cond, List, ℕ, ◌+◌, �
 use Rattle.lists.specs.Rows.{at}
 use Rattle.graph.specs.Slices.{Graph, Owners}
 use Rattle.serial_walk.specs.declared.frame.Frame.{Frame}
-use Rattle.serial_walk.specs.Walk.{RecordJoins, RecordTouches, First, Parted, Walk}
+use Rattle.serial_walk.specs.Walk.{First, Parted, Walk}
 
 -- f with v at i
 abbrev pub put : (ℕ → ℕ) → ℕ → ℕ → ℕ → ℕ
@@ -53,26 +53,6 @@ abbrev pub FrameInHand : ℕ → List ℕ → List ℕ → List ℕ → ℕ → 
 FrameInHand K owners lefts rights r disc stack parents nexts lows marks top time f =
     Walk K (at lefts) (at rights) (length disc) r (OwnerMarked owners marks) (at disc) (at stack) (at parents) (put (at nexts) top f.next)
     (put (at lows) top f.low) (top + 1) time
-
--- the last frame in hand is that of the stack, with its own next record and low
-pub record Hand (K : ℕ) (owners lefts rights disc stack parents nexts lows marks : List ℕ) (r top time : ℕ) (f : Frame) : Type 0 where
-  pub walk : FrameInHand K owners lefts rights r disc stack parents nexts lows marks top time f
-  pub region : f.region ≡ at stack top
-  pub parent : f.parent ≡ at parents top
-  pub touching : f.next < K → RecordTouches (at lefts) (at rights) f.next f.region
-
--- the ends of the records are regions with a time each, and the records of a region are chained
-pub record Chained (K : ℕ) (lefts rights disc left_nexts right_nexts : List ℕ) : Type 0 where
-  pub heads : List ℕ
-  pub graph : Graph K (length disc) lefts rights
-  pub lists : IncidenceLists K (length disc) lefts rights heads left_nexts right_nexts 0
-
--- the frame's next record leads to region w, which is not found
-pub record LeadsOn (K : ℕ) (lefts rights disc : List ℕ) (f : Frame) (w : ℕ) : Type 0 where
-  pub within : f.next < K
-  pub joins : RecordJoins (at lefts) (at rights) f.next f.region w
-  pub inside : w < length disc
-  pub new : at disc w ≡ 0
 
 -- the walk between two roots: the ends of the records before r are found
 pub record Between (K R : ℕ) (owners lefts rights disc stack parents nexts lows marks : List ℕ) (r time : ℕ) : Type 0 where

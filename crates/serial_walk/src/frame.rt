@@ -13,6 +13,20 @@ pub struct Frame {
 }
 
 impl Frame {
+    // The frame, at another region.
+    pub fn at_region(self, region: u32) -> Frame
+        ensures { (result.region ≡ region) × (result.parent ≡ self.parent) × (result.next ≡ self.next) × (result.low ≡ self.low) }
+    {
+        Frame { region, ..self }
+    }
+
+    // The frame, entered by another record.
+    pub fn parent_record(self, parent: u32) -> Frame
+        ensures { (result.region ≡ self.region) × (result.parent ≡ parent) × (result.next ≡ self.next) × (result.low ≡ self.low) }
+    {
+        Frame { parent, ..self }
+    }
+
     // The frame, to look at record j next.
     pub fn next_record(self, j: u32) -> Frame
         ensures { (result.region ≡ self.region) × (result.parent ≡ self.parent) × (result.next ≡ j) × (result.low ≡ self.low) }
@@ -31,55 +45,42 @@ impl Frame {
     }
 }
 
-// The records, and the chains of those that touch each region: its first one, and what follows a record in the chain of its left and of its right region.
-#[derive(Clone, Copy)]
-pub struct Records<'a> {
-    pub owners: &'a [u32],
-    pub lefts: &'a [u32],
-    pub rights: &'a [u32],
-    pub count: u32,
-    pub heads: &'a [u32],
-    pub left_nexts: &'a [u32],
-    pub right_nexts: &'a [u32],
+// A frame at a region that is found now, with all its records to look at.
+pub fn opened(heads: &[u32], region: u32, parent: u32, time: u32) -> Frame
+    requires { region < length heads.now }
+    ensures { (result.region ≡ region) × (result.parent ≡ parent) × (result.next ≡ at heads.now region) × (result.low ≡ time) }
+{
+    let next = heads[region as usize];
+    let f = Frame {
+        region: 0,
+        parent: 0,
+        next: 0,
+        low: time,
+    };
+    f.at_region(region).parent_record(parent).next_record(next)
 }
 
-impl Records<'_> {
-    // A frame at a region that is found now, with all its records to look at.
-    pub fn opened(&self, region: u32, parent: u32, time: u32) -> Frame
-        requires { region < length self.now.heads.now }
-        ensures { (result.region ≡ region) × (result.parent ≡ parent) × (result.next ≡ at self.now.heads.now region) × (result.low ≡ time) }
-    {
-        Frame {
-            region,
-            parent,
-            next: self.heads[region as usize],
-            low: time,
-        }
+// The region that the frame's next record joins with its own.
+pub fn other_end(lefts: &[u32], rights: &[u32], f: Frame) -> u32
+    requires { (f.next < length lefts.now) × (f.next < length rights.now) × RecordTouches (at lefts.now) (at rights.now) f.next f.region }
+    ensures { RecordJoins (at lefts.now) (at rights.now) f.next f.region result }
+{
+    let j = f.next as usize;
+    if lefts[j] == f.region {
+        return rights[j];
     }
+    lefts[j]
+}
 
-    // The region that the frame's next record joins with its own.
-    pub fn other_end(&self, f: Frame) -> u32
-        requires { (f.next < length self.now.lefts.now) × (f.next < length self.now.rights.now)
-            × RecordTouches (at self.now.lefts.now) (at self.now.rights.now) f.next f.region }
-        ensures { RecordJoins (at self.now.lefts.now) (at self.now.rights.now) f.next f.region result }
-    {
-        let j = f.next as usize;
-        if self.lefts[j] == f.region {
-            return self.rights[j];
-        }
-        self.lefts[j]
+// What follows the frame's next record in the chain of its region.
+pub fn after(lefts: &[u32], left_nexts: &[u32], right_nexts: &[u32], f: Frame) -> u32
+    requires { (f.next < length lefts.now) × (f.next < length left_nexts.now) × (f.next < length right_nexts.now) }
+    ensures left { at lefts.now f.next ≡ f.region → result ≡ at left_nexts.now f.next }
+    ensures right { (at lefts.now f.next ≡ f.region → ⊥) → result ≡ at right_nexts.now f.next }
+{
+    let j = f.next as usize;
+    if lefts[j] == f.region {
+        return left_nexts[j];
     }
-
-    // What follows the frame's next record in the chain of its region.
-    pub fn after(&self, f: Frame) -> u32
-        requires { (f.next < length self.now.lefts.now) × (f.next < length self.now.left_nexts.now) × (f.next < length self.now.right_nexts.now) }
-        ensures left { at self.now.lefts.now f.next ≡ f.region → result ≡ at self.now.left_nexts.now f.next }
-        ensures right { (at self.now.lefts.now f.next ≡ f.region → ⊥) → result ≡ at self.now.right_nexts.now f.next }
-    {
-        let j = f.next as usize;
-        if self.lefts[j] == f.region {
-            return self.left_nexts[j];
-        }
-        self.right_nexts[j]
-    }
+    right_nexts[j]
 }
