@@ -35,6 +35,7 @@ pub fn write_field(v: u64, out: &mut [u8], at: usize) -> usize
     write_decimal(v, out, end)
 }
 
+// A bit pattern after a space. Not one with `write_field` over a closure: its clauses would say again what the two writers promise.
 fn write_bits(v: u64, out: &mut [u8], at: usize) -> usize
     requires { TextRoom (bits_text v) out.old at }
     ensures { Writes (bits_text v) out.old at out.new result }

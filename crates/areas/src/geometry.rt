@@ -1,6 +1,6 @@
 // Sides of a line, segments that meet, and the steps that a span cuts. The source's signed `cross` is what is added less what is
 // taken away: two sums, so that nothing is negative.
-ghost use Rattle.std.specs.Prelude.{◌≡◌, true, ℕ, ◌*◌, ◌<◌, ◌≤◌, min, max};
+ghost use Rattle.std.specs.Prelude.{◌≡◌, true, ℕ, ◌*◌, ◌<◌, ◌≤◌};
 ghost use Rattle.position.specs.Order.{pos_le};
 ghost use Rattle.grid.specs.Cells.{Grid, centre, column_of, row_of};
 ghost use Rattle.grid.specs.Steps.{step_of};
@@ -15,18 +15,6 @@ pub fn product(a: u32, b: u32) -> u32
     ensures { (result ≡ a * b) × (result ≤ 67108864) }
 {
     a * b
-}
-
-pub fn min(a: u32, b: u32) -> u32
-    ensures { result ≡ min a b }
-{
-    a.min(b)
-}
-
-pub fn max(a: u32, b: u32) -> u32
-    ensures { result ≡ max a b }
-{
-    a.max(b)
 }
 
 // The closed segment from a to b, and the line through it.

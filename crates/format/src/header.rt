@@ -33,6 +33,7 @@ pub struct Header {
     pub offsets: Offsets,
 }
 
+// Two readers, not one: each gives six fields of its own by name.
 pub fn read_counts(s: &[u8], at: usize) -> Counts
     requires { at + counts_size ≤ length s.now }
     ensures { result ≡ counts_at s.now at }

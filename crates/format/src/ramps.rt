@@ -8,7 +8,7 @@ pub enum RampSide {
     Upper,
 }
 
-// A side, where 003 has one; no ramp; or a byte that is no ramp end.
+// A side, where 003 has one; no ramp; or a byte that is no ramp end: three cases, not an Option, for a bad byte is refused by number 9.
 #[derive(Clone, Copy, PartialEq, Eq)]
 pub enum RampEnd {
     NoRamp,

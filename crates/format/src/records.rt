@@ -48,6 +48,7 @@ pub struct ObservationRecord {
     pub sources: u32,
 }
 
+// Like readers stay apart: each gives the fields of its own record by name.
 pub fn read_position(s: &[u8], at: usize) -> PixelPosition
     requires { at + 8 ≤ length s.now }
     ensures { result ≡ position_at s.now at }

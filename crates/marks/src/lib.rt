@@ -136,7 +136,8 @@ fn mark_lent(
     );
 }
 
-// The same on arrays of its own, so long that they hold the records and the regions that these part.
+// The same on arrays of its own, so long that they hold the records and the regions that these part. Apart from serial_bridges' `mark_on`: other
+// arrays, lent to another rule.
 fn mark_sized<const RECORDS: usize, const REGIONS: usize>(
     owners: &[u32],
     lefts: &[u32],

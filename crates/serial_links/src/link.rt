@@ -177,6 +177,7 @@ impl Link {
         next
     }
 
+    // Two envelopes, not one by axis: each reads fields of its own, which document 01 wants single.
     fn transverse_envelope(self) -> f64
         ensures { result ≡ transverse_envelope (link_held self) (extremes_in self) }
     {

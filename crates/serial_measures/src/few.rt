@@ -12,7 +12,7 @@ use serial_links::limits::Limits;
 use serial_links::link::Link;
 use wire::read_u32;
 
-// With one cell more, if it is of the link's region.
+// With one cell more, if it is of the link's region. Apart from context's of a region's statistics: another thing counts, by another method.
 fn counted(link: Link, inside: bool, i: usize, width: u32, limits: Limits) -> Link
     requires { (i < 1048576) × (0 < width) }
     ensures { result ≡ cond inside (link_with_cell (limits_of limits) link (i % width) (i / width)) link }

@@ -1,44 +1,24 @@
 // Little-endian numbers at an offset of a byte slice.
 #![tactic(auto)]
 
-ghost use Rattle.std.specs.Prelude.{◌≡◌, ◌+◌, ◌<◌, ◌≤◌, length};
+ghost use Rattle.std.specs.Prelude.{◌≡◌, ◌+◌, ◌≤◌, length};
 ghost use Rattle.wire.specs.Bytes.{u32_at, u64_at, u32_bytes, u64_bytes, splice};
-
-fn byte(x: u8) -> u32
-    ensures { (result ≡ x) × (result < 256) }
-{
-    x as u32
-}
-
-// A number in a wider type.
-pub fn wide(x: u32) -> u64
-    ensures { (result ≡ x) × (result < 0x1_0000_0000) }
-{
-    x as u64
-}
-
-// A number as an index.
-pub fn size(x: u32) -> usize
-    ensures { (result ≡ x) × (result < 0x1_0000_0000) }
-{
-    x as usize
-}
 
 pub fn read_u32(s: &[u8], at: usize) -> u32
     requires { at + 4 ≤ length s.now }
     ensures { result ≡ u32_at s.now at }
 {
-    byte(s[at])
-        + byte(s[at + 1]) * 0x100
-        + byte(s[at + 2]) * 0x1_0000
-        + byte(s[at + 3]) * 0x100_0000
+    u32::from(s[at])
+        + u32::from(s[at + 1]) * 0x100
+        + u32::from(s[at + 2]) * 0x1_0000
+        + u32::from(s[at + 3]) * 0x100_0000
 }
 
 pub fn read_u64(s: &[u8], at: usize) -> u64
     requires { at + 8 ≤ length s.now }
     ensures { result ≡ u64_at s.now at }
 {
-    wide(read_u32(s, at)) + wide(read_u32(s, at + 4)) * 0x1_0000_0000
+    u64::from(read_u32(s, at)) + u64::from(read_u32(s, at + 4)) * 0x1_0000_0000
 }
 
 pub fn write_u32(s: &mut [u8], at: usize, v: u32)
