@@ -6,7 +6,6 @@ use mathlib.Core.Option.{Option}
 use Prim.Native.Nat.{ℕ, ◌+◌, ◌*◌, ◌-◌, ◌≤◌}
 use native.Mathlib.Omega.{arith}
 use lib.ListN.{length, take, drop}
-use Rattle.std.specs.Int.{from_bool}
 use Rattle.order.specs.Lists.{has}
 use Rattle.format.specs.Bounds.{max_bases}
 use Rattle.format.specs.Header.{counts_at, bases_start}
@@ -29,11 +28,6 @@ use Rattle.analysis.specs.Plans.{Headed}
 use Rattle.analysis.proofs.Headed.{headed-laid, headed-cells, counts-are, bases-start, bases-few, bases-inside, anchors-in}
 use Rattle.analysis.proofs.Mapped.{map-cells, map-long}
 use Rattle.probe.specs.Regions.{stats_words, region_words, cell_labels}
-
--- what `u32::from` makes of a bool
-pub from_bool-one : (b : Bool) → from_bool b ≡ one b
-from_bool-one true = refl
-from_bool-one false = refl
 
 -- no refusal
 pub ready-now : {checked : Option Refusal} {asked room number detail : ℕ} → FirstAnswer checked asked room number detail → number ≤ 0

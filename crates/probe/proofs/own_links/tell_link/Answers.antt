@@ -4,7 +4,7 @@ use Rattle.wire.specs.Bytes.{splice}
 use Rattle.analysis.proofs.Headed.{headed-laid, headed-cells}
 use Rattle.analysis.proofs.Calling.{headed-work}
 use Rattle.probe.specs.Links.{float_bits}
-use Rattle.probe.proofs.RegionLaws.{from_bool-one}
+use Rattle.context.proofs.Counting.{one-from}
 use Rattle.probe.proofs.LinkLaws.{link-told}
 use Rattle.probe.proofs.own_links.tell_link.Goals as goal
 
@@ -24,4 +24,4 @@ returns c =
     c.measure_one-link.ensures c.measured-m.ensures c.kind_of-kind.ensures
     (c.bits_of-across.ensures ∙ ap float_bits c.envelopes-transverse.ensures.across)
     (c.bits_of-along.ensures ∙ ap float_bits c.envelopes-transverse.ensures.along)
-    (c.from.ensures ∙ from_bool-one _))
+    (c.from.ensures ∙ one-from _))

@@ -5,7 +5,8 @@ use Rattle.wire.specs.Bytes.{words, splice}
 use Rattle.analysis.proofs.Headed.{headed-laid, headed-cells}
 use Rattle.analysis.proofs.Mapped.{map-inside, map-long}
 use Rattle.analysis.proofs.Calling.{headed-work}
-use Rattle.probe.proofs.RegionLaws.{anchors-there, region-told, from_bool-one}
+use Rattle.context.proofs.Counting.{one-from}
+use Rattle.probe.proofs.RegionLaws.{anchors-there, region-told}
 use Rattle.probe.proofs.own_regions.tell_region.Goals as goal
 
 pub overflow_mul-n : goal.overflow_mul-n
@@ -38,4 +39,4 @@ returns c =
     c.write_words.ensures
     ∙ ap (λ (l : List _). splice c.args.out.now 0 (words l))
     (region-told c.requires.0 refl refl refl c.args.labels.now c.args.region c.count_cells-counted.ensures c.region_stats-s.ensures
-    c.anchor_labels-found.ensures c.is_anchored-anchored.ensures (c.from.ensures ∙ from_bool-one _) (c.from-2.ensures ∙ from_bool-one _))
+    c.anchor_labels-found.ensures c.is_anchored-anchored.ensures (c.from.ensures ∙ one-from _) (c.from-2.ensures ∙ one-from _))
