@@ -11,6 +11,7 @@ use areas_partition::{Partition, partition_by_spans};
 use serial_bridges::bridge_boundary_indices;
 
 // "13 over 4,096 region pairs in all."
+// Too many are told by their number, not by a Result: `work` holds then too, and check_pairs refuses it.
 pub const MAX_PAIRS: usize = 4_096;
 
 // A map of few cells and spans is parted with room for few region pairs first, which costs little to clear.

@@ -252,6 +252,7 @@ fn plan_matched(
 }
 
 // By the boundaries' own ends.
+// Not one with plan_listed: spans of another slice at another stride, which other checks allow.
 pub fn plan_own(
     limits: Limits,
     directions: u32,

@@ -1,6 +1,8 @@
 // The core of the calls: partition, records, marks and the merge plan of a job.
+// Arrays are on the stack and lent one by one, not Vec: there is no heap.
 #![tactic(auto)]
 
+// `Leads` stands in clauses, not in a type: plan_reduce, find_areas and find_marks, which docs/ name, take the number.
 mod bridged; // partition, records and bridges
 mod drawing; // the plan of a job past its checks
 mod marked; // partition, records and marks

@@ -47,6 +47,7 @@ fn areas_within<const PAIRS: usize>(
 }
 
 // Partitions a map by spans; gives the numbers of areas, where the region pairs aren't too many, and of pairs.
+// find_marks and plan_matched try room for few pairs alike: a closure can't be generic in the room.
 pub fn find_areas(
     cells: &[u8],
     width: u32,

@@ -17,6 +17,7 @@ use serial_links::limits::Limits;
 
 // The merges of a job by its boundaries' own ends: the plan by rank, or a refusal. Left free: what `order` and `plan` hold past the last
 // boundary, and all that they hold after a refusal.
+// Not one with merges_by_list over closures: two calls differ, and the clauses of both would be longer.
 pub fn merges_by_own_ends(
     limits: Limits,
     directions: u32,

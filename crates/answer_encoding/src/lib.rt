@@ -1,4 +1,5 @@
 // An answer's bytes, from what was gathered of the kept boundaries.
+// Arrays are lent one by one, of fixed length, not Vec: there is no heap.
 #![tactic(auto)]
 
 mod reads; // elements of slices

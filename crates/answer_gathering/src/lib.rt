@@ -1,4 +1,5 @@
 // What goes into each rank that a plan keeps: own sources, and the places of observations.
+// Arrays are lent one by one, of fixed length, not Vec or maps: there is no heap.
 #![tactic(auto)]
 
 mod casts;

@@ -1,4 +1,5 @@
 // What an answer is worked out from, a job's canonical copies by place.
+// Arrays by place are lent one by one, of fixed length, not Vec or maps: there is no heap, and they are written.
 #![tactic(auto)]
 
 mod casts;

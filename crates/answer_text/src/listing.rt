@@ -1,4 +1,4 @@
-// What choke-list prints: an answer's answer_text, or a refusal.
+// What choke-list prints: an answer's text, or a refusal.
 ghost use Rattle.std.specs.Prelude.{◌+◌, ◌*◌, ◌≤◌, ◌<◌, length};
 ghost use Rattle.answer_text.specs.Lines.{kept_line, refused_line};
 ghost use Rattle.answer_text.specs.Answer.{TextRoom, Writes, answer_text};
@@ -17,8 +17,9 @@ fn write_kept(n: u32, out: &mut [u8], at: usize) -> usize
     write_byte(b'\n', out, end2)
 }
 
-// The answer_text of an answer, written at the start of out; gives its length. Nothing is written, and 0 given, where the answer is not whole or out is
+// The text of an answer, written at the start of out; gives its length. Nothing is written, and 0 given, where the answer is not whole or out is
 // shorter than three times the answer.
+// 0, not an Option: `answer_text` of such bytes is empty, and this is its length.
 pub fn write_listing(answer: &[u8], out: &mut [u8]) -> usize
     ensures writes { Writes (answer_text answer.now (length out.old)) out.old 0 out.new result }
     ensures fits { result ≤ length out.new }

@@ -65,6 +65,7 @@ pub fn clamp(v: u32, low: u32, high: u32) -> u32
 }
 
 // The line from (l, lm) to (u, um) at v, rounded down.
+// Five numbers, not a method of Line: line_at of specs/Strip.antt takes them so.
 pub fn line_at(l: u32, lm: u32, u: u32, um: u32, v: u32) -> u32
     requires { (l < u) × (l ≤ v) × (v ≤ u) × (u ≤ 8192) × (lm ≤ 8192) × (um ≤ 8192) }
     ensures { result ≡ line_at l lm u um v }
@@ -110,6 +111,7 @@ fn line_of(span: Span) -> Line
     }
 }
 
+// A function, not an `if` in place: what calls it has one case, by `cond`.
 fn pick(t: bool, a: u32, b: u32) -> u32
     ensures { result ≡ cond t a b }
 {

@@ -18,6 +18,7 @@ pub fn product(a: u32, b: u32) -> u32
 }
 
 // The closed segment from a to b, and the line through it.
+// Of a point it is a clause, not a type: PixelPosition is public, and has positions off the map too.
 #[derive(Clone, Copy)]
 struct Segment {
     a: PixelPosition,

@@ -10,6 +10,7 @@ use areas::spans::span_at;
 
 // The counts of the first spans, and their pairs as records in the order of the spans. Gives the number of records, and one more than the arrays hold
 // where they are over that.
+// A number, not a Result: `Recorded` has it, and Partition hands it on.
 pub fn assess_spans(
     cells: &[u8],
     width: u32,

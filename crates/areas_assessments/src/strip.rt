@@ -26,6 +26,7 @@ fn place_of(tall: bool, c: u32, cm: u32) -> WalkPosition
 
 impl SpannedMap<'_> {
     // Counts the steps that the span cuts from the cells of its strip at c.
+    // lefts and rights are no struct of &mut slices: a function that lends its arrays to one doesn't learn what they hold after.
     fn assess_beside(
         &self,
         c: u32,

@@ -74,6 +74,7 @@ pub fn join(work: &mut [u8], i: usize, j: usize)
     link(work, i, j);
 }
 
+// The test comes in: with four `if`s join_bits would have sixteen cases.
 pub fn join_if(work: &mut [u8], on: bool, i: usize, j: usize)
     requires { Usable i work.old × (on ≡ true → Usable j work.old) }
     ensures { Joined on i j work.old work.new }

@@ -7,6 +7,7 @@ ghost use Rattle.areas_components.specs.Forests.{Kept};
 
 use crate::parents::set_parent;
 
+// A function, not an `if` in place: the loop has one case, by `cond`.
 fn pick(t: bool, a: usize, b: usize) -> usize
     ensures { result ≡ cond t a b }
 {

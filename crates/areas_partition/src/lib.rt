@@ -21,6 +21,7 @@ pub struct Partition {
 }
 
 // Writes the labels of the areas to the start of work, four bytes a cell; the open bytes stand after them, and then the due bytes. Gives the number of areas.
+// Map, spans and lent arrays go one by one: partition_by_spans is public, and what it says is of each. There is no heap.
 fn label_areas(
     cells: &[u8],
     width: u32,

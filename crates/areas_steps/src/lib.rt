@@ -1,4 +1,5 @@
 // The open steps of a map, in a byte a cell.
+// Map and span go one by one into the public functions, which make a Terrain or a Cut of them once.
 #![tactic(auto)]
 
 pub mod opening; // the steps of the map, none of them cut

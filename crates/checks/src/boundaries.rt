@@ -24,6 +24,7 @@ pub fn width_fault(bits: u64) -> bool
     MAX_WIDTH_BITS < bits
 }
 
+// The loops of 6 to 12 and of 16, 17 stay apart: a closure's clauses would be as long as a loop.
 pub fn check_ramps(job: &[u8], at: usize, n: usize) -> Result<(), Refused>
     requires { at + n * boundary_size ≤ length job.now }
     ensures { meaning result ≡ first_refusal (each n (ramp_check job.now at)) }

@@ -37,6 +37,7 @@ pub enum Refused {
 
 impl Refused {
     // Document 01's number.
+    // Two methods, not From: a refusal has two numbers.
     pub fn number(self) -> u32
         ensures { result ≡ (refusal_of self).number }
     {

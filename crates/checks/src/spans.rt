@@ -11,6 +11,7 @@ use crate::refused::Refused;
 use format::{CELL_PIXELS, MAX_SPANS, SPAN_SIZE, read_span};
 use position::{PixelPosition, Span};
 
+// The map's sides go as two numbers with clauses, not as a type: ends_fault, check_ends and check_list are public.
 fn position_fault(width: u32, height: u32, p: PixelPosition) -> bool
     requires { (width ≤ max_side) × (height ≤ max_side) }
     ensures { result ≡ position_fault width height p }

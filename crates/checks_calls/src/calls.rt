@@ -53,6 +53,7 @@ pub fn check_job(job: &[u8]) -> Result<(), Refused>
 }
 
 // 1 to 12, or without 12 where ends may coincide.
+// A flag, not a closure: boundary_checks of specs/Refusals.antt takes it, as ends_check does in check_ends.
 pub fn check_boundaries(job: &[u8], distinct: bool) -> Result<(), Refused>
     ensures { meaning result ≡ first_refusal (boundary_checks distinct job.now) }
 {

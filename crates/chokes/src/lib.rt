@@ -1,4 +1,5 @@
 // The four calls, which chokes_c exports to C.
+// Slices one by one: the C interface.
 #![tactic(auto)]
 
 mod cards;

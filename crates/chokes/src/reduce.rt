@@ -37,6 +37,7 @@ fn finish(
 }
 
 // Gives the length of the answer.
+// Not one with reduce_by_list over a closure: the call in which they differ is one line of six.
 fn reduce(
     job: &[u8],
     thresholds: &[u8],

@@ -126,6 +126,7 @@ pub fn next_row(column: u32, row: u32, width: u32) -> u32
 }
 
 // One cell more, if it is of the region.
+// The test comes in, not an `if` in the loop: what the loop keeps is by `cond`.
 fn counted(stats: RegionStats, inside: bool, i: usize, width: u32, cell: u8) -> RegionStats
     requires { CellRoom stats × (i < 1048576) × (0 < width) }
     ensures { result ≡ cond inside (stats_with_cell stats (i % width) (i / width) cell) stats }

@@ -35,6 +35,7 @@ pub fn read_card(cards: &[u8], at: usize) -> RegionStats
 }
 
 // The first half of a card: how many cells, and their box.
+// Lent bytes and a place, not a struct or a Vec: there is no heap, and the public write_card takes the two.
 fn write_box(cards: &mut [u8], at: usize, s: RegionStats)
     requires { at + 20 ≤ length cards.old }
     ensures { cards.new

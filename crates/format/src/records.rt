@@ -14,6 +14,7 @@ pub struct Source {
 }
 
 // BASE_SIZE bytes. An anchor of twice 4,294,967,295 means that there is none.
+// Numbers, not an Option or an enum, here and in RampRecord: a record is what its bytes are, bad ones too.
 #[derive(Clone, Copy)]
 pub struct BaseRecord {
     pub id: u32,

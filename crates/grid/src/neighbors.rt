@@ -13,6 +13,7 @@ use position::WalkPosition;
 pub const EIGHT: u32 = 495;
 
 // The direction is in the set.
+// d < 9 and the bounds of a position stand in clauses, not in types: public functions may ask for no narrower type.
 pub fn has_direction(directions: u32, d: u32) -> bool
     requires { d < 9 }
     ensures { result ≡ has d (directions_of directions) }

@@ -1,4 +1,5 @@
 // A table of u32 words for labels, from base on in lent work: the word of label x is the one at x - 1, and 0 where the label has none.
+// 0, not an Option, and `work` and `base` apart: the words stand in bytes that are lent and zeros before and after.
 #![tactic(auto)]
 
 ghost use Rattle.std.specs.Prelude.{◌≡◌, ◌+◌, ◌*◌, ◌-◌, ◌≤◌, ◌<◌, length};

@@ -1,4 +1,5 @@
 // The marks of boundaries: each closed as a whole, all its region pairs at once, under small numbers for the labels of regions.
+// Arrays go one by one, not as a struct: under other names the same ones serve the walk and closing. There is no heap.
 #![tactic(auto)]
 
 ghost use Rattle.std.specs.Prelude.{◌≡◌, true, ◌*◌, ◌≤◌, length};

@@ -29,6 +29,7 @@ fn clear(parents: &mut [u32], heights: &mut [u32])
 }
 
 // Marks each boundary that is a choke of the first count records with 1, and every other with 0, on arrays that are lent.
+// One by one here: marks lends arrays that have other names in the walk.
 pub fn close_boundaries(
     owners: &[u32],
     lefts: &[u32],

@@ -10,6 +10,7 @@ use chokes::chokes_reduce;
 
 // Runs Reduce on a job, with lent thresholds, work and answer, and writes what is printed at the start of out; gives its length. Work and answer are
 // left as Reduce leaves them.
+// Slices one by one, as chokes_reduce takes them.
 pub fn print_list(
     job: &[u8],
     thresholds: &[u8],

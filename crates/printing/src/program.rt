@@ -25,6 +25,7 @@ fn choke_list(input: &[u8], out: &mut [u8; 196608]) -> usize
 }
 
 // The same for the input that was read into a buffer, however long that input is.
+// A buffer and how much of it was read, not a Vec: there is no heap.
 fn print_read(buffer: &[u8], n: usize, out: &mut [u8; 196608]) -> usize
     requires { (n ≤ length buffer.now) × (most_input < length buffer.now) }
     ensures prints_read { PrintsRead buffer.now n out.old out.new result }

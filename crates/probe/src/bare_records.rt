@@ -74,6 +74,7 @@ fn first_unfit(records: &[u8], n: usize, regions: usize) -> Option<usize>
 }
 
 // Records part by part, as the bridge walk and the marking take them.
+// Arrays of fixed length, not Vecs: there is no heap.
 #[derive(Drop)]
 pub struct Records {
     pub owners: [u32; 4096],

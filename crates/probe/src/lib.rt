@@ -25,6 +25,7 @@ pub use own_partition::probe_partition;
 pub use own_plan::probe_plan;
 pub use own_regions::probe_region;
 
+// The call is C's number, not an enum: `checked` of specs/Probe.antt takes it.
 fn verdict(call: u32, job: &[u8], list: &[u8]) -> Result<(), Refused>
     ensures { meaning result ≡ checked call job.now list.now }
 {
@@ -58,6 +59,7 @@ fn copy(out: &mut [u8], part: &[u8]) -> usize
 }
 
 // The ends of span i, put at the start of out where they fit; their number of bytes.
+// `which` is C's number, not an enum, as span_ends takes it.
 pub fn probe_span_ends<'a>(
     job: &'a [u8],
     list: &'a [u8],

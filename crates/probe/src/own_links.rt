@@ -30,6 +30,7 @@ pub fn bits_of(x: f64) -> u64
     x.to_bits()
 }
 
+// The case as a number, here and in write_link: C gets it in four bytes.
 fn kind_of(m: Measured) -> u32
     ensures { result ≡ kind_of (measured_meaning m) }
 {

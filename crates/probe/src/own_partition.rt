@@ -15,6 +15,7 @@ use grid::neighbors::EIGHT;
 use wire::write_u32;
 
 // The counts of each span, from the third word on.
+// removed and separated are apart from Records: partition_by_spans takes them one by one.
 fn write_counts(removed: &[u32; 256], separated: &[u32; 256], count: usize, out: &mut [u8])
     requires { (count ≤ 256) × (8 + 8 * count ≤ length out.old) }
     ensures { out.new ≡ splice out.old 8 (counts_from removed.now separated.now count) }

@@ -15,6 +15,7 @@ use serial_links::limits::Limits;
 use wire::write_u32;
 
 // The plan of Reduce, or of Reduce by list where `which` isn't 0.
+// `which` is C's number, not an enum: probe_checks and probe_spans of specs/Planning.antt take it.
 fn plan_of(
     limits: Limits,
     directions: u32,
@@ -49,6 +50,7 @@ fn write_plan(order: &[u32; 256], plan: &[u32; 256], n: usize, out: &mut [u8])
 }
 
 // How many boundaries a job has, of the first 256.
+// A number, not an Option: a job that is none was refused before, and CountOf asks for at most 256.
 fn count_of(job: &[u8]) -> usize
     ensures { CountOf job.now result }
 {

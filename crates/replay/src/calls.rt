@@ -54,6 +54,7 @@ impl Call {
 
 // The record of a call: how many bytes of work and of answer are lent to it, the byte that fills
 // them, and what it must leave, of work and answer the pieces.
+// `number` is one of the C interface, which the list records.
 #[derive(Clone, Copy)]
 struct Record<'a> {
     work: usize,

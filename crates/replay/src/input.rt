@@ -29,6 +29,7 @@ struct Lengths {
 }
 
 // The input that was read last: its parts, one behind another, and their lengths.
+// An array of fixed length and lengths, not Vecs: there is no heap.
 #[derive(Drop)]
 pub struct Held {
     bytes: [u8; MOST],

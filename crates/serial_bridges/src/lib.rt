@@ -1,4 +1,5 @@
 // The boundaries that are bridges of the graph of records, by the walk, under small numbers for the labels of regions.
+// Arrays are lent one by one, of fixed length, not Vec: there is no heap, and marks lends the same ones to closing.
 #![tactic(auto)]
 
 mod numbering; // numbers for the labels of regions
@@ -27,6 +28,7 @@ pub const MOST: usize = 4096;
 pub const MOST_REGIONS: usize = 8192;
 
 // A number that no record has.
+// Not an Option: chains stand in lent arrays of numbers, and end at one that is no record's.
 pub const NONE: u32 = 4096;
 
 // Marks each boundary that is a bridge with 1, and every other with 0, on arrays that are lent. The table of words from base on in work is left as it was.

@@ -1,4 +1,5 @@
 // The links between boundaries that regions give: 000's `candidate_links`, without its measures.
+// Arrays by rank and by record are lent, of fixed length, not Vec or maps: there is no heap.
 #![tactic(auto)]
 
 ghost use Rattle.std.specs.Prelude.{◌≤◌};

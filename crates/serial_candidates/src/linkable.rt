@@ -6,6 +6,7 @@ use areas::spans::span_at;
 use context::pairs::has_full_pair;
 
 // 1 if the rank has distinct ends, no ramp and a full pair, else 0.
+// A byte, not a bool: has_region of specs/Gives.antt tests the mark for 1.
 fn mark(
     rank: usize,
     own: &[u32; 1024],

@@ -26,6 +26,7 @@ fn add_pair(
 }
 
 // For each rank how many records it has, and the regions of the first one, 0 where there is none.
+// 0, not an Option: `Firsts` of specs/Owners.antt has no_record's regions there.
 pub fn first_pairs(
     owners: &[u32],
     lefts: &[u32],

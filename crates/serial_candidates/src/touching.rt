@@ -13,6 +13,7 @@ pub struct Touching {
     pub last: u32,
 }
 
+// A function, not an `if` in place: with_owner is by `cond`.
 fn pick(test: bool, a: u32, b: u32) -> u32
     ensures { result ≡ cond test a b }
 {

@@ -86,6 +86,7 @@ pub fn width_of(bits: u64) -> f64
     f64::from_bits(bits)
 }
 
+// A function by name, not From: points are made of positions, spans and cells alike.
 pub fn point_of(p: PixelPosition) -> Point
     ensures { result ≡ held_point (point_of p) }
 {

@@ -9,6 +9,7 @@ use crate::link::Link;
 use crate::parallel::SpanPair;
 use length::Length;
 
+// No ghost field bounds most_spans: half of what takes Limits asks nothing of it.
 #[derive(Clone, Copy)]
 pub struct Limits {
     pub least_spans: u32,

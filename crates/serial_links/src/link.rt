@@ -16,6 +16,7 @@ use length::Length;
 use length::floats::{max, min};
 use position::Span;
 
+// Single f64 fields, not Points and Ranges, by document 01; flags, not an Option: specs/HeldLink.antt reads them by name.
 #[derive(Clone, Copy)]
 pub struct Link {
     pub centre_x: f64,

@@ -43,6 +43,7 @@ fn clear_all(work: &mut [u8], n: usize, regions: &[u32; 256], links: u32)
 }
 
 // What the table says of a cell's label: 0, or the number of a link and 1.
+// A number, not an Option: table_number of specs/Tables.antt has 0 for no link.
 fn number_at(work: &[u8], n: usize, i: usize) -> u32
     requires { (i < n) × (n ≤ 0x10_0000) × (8 * n ≤ length work.now) × (word work.now i ≤ n) }
     ensures { result ≡ table_number work.now n (word work.now i) }
@@ -65,6 +66,7 @@ fn link_at(own: &[u32; 1024], bits: &[u64; 256], first: u32, second: u32) -> Lin
 }
 
 // 1 for a link that passes.
+// The three marks are bytes, not bools: `Judged` reads them as 1 and 0.
 fn passing_mark(link: Link, limits: Limits) -> u8
     ensures { result ≡ cond (passing (measured_in (limits_of limits) link)) 1 0 }
 {
@@ -86,6 +88,7 @@ fn inside_mark(link: Link) -> u8
 }
 
 // Measures the links by the cells of their regions, whose numbers are in the table.
+// Array by array, as measure_few: a struct of ten fields for these two would be longer. There is no heap.
 fn measure_all(
     cells: &[u8],
     width: u32,

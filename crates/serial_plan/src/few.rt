@@ -22,6 +22,7 @@ impl Few {
     }
 
     // With x before the others, if asked.
+    // The test comes in, here and in Near::with, not an `if` in each loop: `keep` of the definitions tests each.
     pub fn with(self, x: u32, on: bool) -> Few
         requires { self.count < 4294967295 }
         ensures { result ≡ cond on (pushed self x) self }

@@ -1,4 +1,5 @@
 // Which groups of linked boundaries the rules accept, and which rank each rank goes into: 000's `collapse_serial_boundaries` up to the merges.
+// Arrays by rank and by link are lent or on the stack, of fixed length, not Vec: there is no heap.
 #![tactic(auto)]
 
 pub mod few; // the first sixteen numbers of a list

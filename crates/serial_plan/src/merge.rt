@@ -21,6 +21,7 @@ fn join_chosen(chosen: &[u8; 256], t: &Tables, parts: &mut [u32; 256], joined: &
 }
 
 // The rank that each rank goes into by the serial groups.
+// Not one with flat_plan over a closure: each chooses links by a function of its own, and calls the rest.
 fn serial_plan(
     limits: Limits,
     t: &Tables,

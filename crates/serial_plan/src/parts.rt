@@ -36,6 +36,7 @@ fn join_parts(parts: &mut [u32; 256], a: u32, b: u32)
 }
 
 // Joins the parts of two ranks, if the link is chosen.
+// `on` is a byte, not a bool, here and in mark_link: marks are bytes (Groups).
 fn join_link(parts: &mut [u32; 256], on: u8, first: u32, second: u32)
     requires { (length parts.old ≡ 256) × (first < 256) × (second < 256) }
     ensures { FirstAre (λ i. cond (eqb on 1) (join (at parts.old first) (at parts.old second) (at parts.old i))

@@ -26,6 +26,7 @@ struct Measured {
 }
 
 // Gives how many links there are; the table is left as it was.
+// plan_merges' inputs, one by one: a struct for this one function would be longer.
 fn measured_links(
     limits: Limits,
     job: &[u8],

@@ -99,6 +99,7 @@ fn nearest(own: &[u32; 1024], ranks: Few, among: Few) -> usize
 }
 
 // The retained rank of a group.
+// By two arrays, not by Tables: it reads no other.
 pub fn representative(limits: Limits, own: &[u32; 1024], bits: &[u64; 256], ranks: Few) -> usize
     requires { (1 ≤ ranks.count) × (ranks.count ≤ 16) × RanksFit own.now ranks × Widths bits.now ranks × RankFits own.now 0 }
     ensures { (result ≡ retained_in (limits_of limits) own.now bits.now (few_list ranks)) × (result < 256) }

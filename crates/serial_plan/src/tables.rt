@@ -1,7 +1,7 @@
 // What the groups are judged by, in arrays by rank and by link.
 
 // n ranks with their spans, width bits and region pairs, and the links between them.
-// No ghost field says what holds of them: few functions ask for all of it.
+// No ghost field says what holds of them: each function asks for another part of it.
 #[derive(Clone, Copy)]
 pub struct Tables<'a> {
     pub n: usize,

@@ -1,4 +1,5 @@
 // Boundaries and spans by rank, in arrays: the code's view of a run's listing.
+// Arrays by rank are lent, of fixed length, not Vec: there is no heap.
 #![tactic(auto)]
 
 ghost use Rattle.std.specs.Prelude.{◌≡◌, ◌+◌, ◌*◌, ◌<◌, ◌≤◌, length};

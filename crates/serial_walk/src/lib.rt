@@ -1,4 +1,5 @@
 // The walk in depth over a list of records (Tarjan), which marks the boundaries that are bridges.
+// Arrays are lent one by one, of fixed length, not Vec: there is no heap, and full_graph and walk_all speak of each.
 #![tactic(auto)]
 
 mod chaining; // the records that touch each region, in chains

@@ -6,6 +6,7 @@ ghost use Rattle.serial_walk.specs.Slices.{marking};
 use crate::frame::Frame;
 
 // When the region was found, 0 if it was not.
+// 0, not an Option: the times stand in a lent array of numbers, and `Between` reads 0 there.
 pub fn time_of(disc: &[u32], region: u32) -> u32
     requires { region < length disc.now }
     ensures { result ≡ at disc.now region }
