@@ -46,7 +46,7 @@ impl Span {
     pub fn canonical(self) -> Span
         ensures { result ≡ canonical self }
     {
-        if self.a <= self.b {
+        if self.a.le(self.b) {
             self
         } else {
             Span {
@@ -57,10 +57,9 @@ impl Span {
     }
 
     // The two ends are one position.
-    #[tactic(auto, unfolding(crate::specs::Order::pos_same))]
     pub fn coincides(self) -> bool
         ensures { result ≡ pos_same self.a self.b }
     {
-        self.a == self.b
+        self.a.same(self.b)
     }
 }
