@@ -1,6 +1,6 @@
 -- A partition with room for few region pairs, and one after it with room for more.
 use mathlib.Core.Path.{◌≡◌, ◌∙◌, ap}
-use mathlib.Core.Logic.{by_cases}
+use mathlib.Core.Logic.{◌⊎◌, ⊎_elim, by_cases}
 use mathlib.Core.List.{List}
 use Prim.Native.Nat.{ℕ, ◌≤◌, ◌<◌}
 use native.Mathlib.Decide.{dec_lt}
@@ -10,8 +10,13 @@ use Rattle.areas.specs.Words.{labelled}
 use Rattle.areas_assessments.specs.Recording.{Arrays}
 use Rattle.areas_assessments.proofs.Recording.{zero-arrays}
 use Rattle.graph.specs.Records.{Record}
-use Rattle.analysis.specs.Bridging.{PartedWithin}
+use Rattle.results.specs.Results.{max_pairs}
+use Rattle.analysis.specs.Bridging.{few_pairs, PartedWithin}
 use Rattle.analysis.proofs.Bridging.{labelled-again}
+
+-- either room fits
+pub room_fits : {most : ℕ} → (most ≡ few_pairs) ⊎ (most ≡ max_pairs) → most ≤ max_pairs
+room_fits r = ⊎_elim (λ e. omega arith) (λ e. omega arith) r
 
 -- arrays of zeros, with as much room as their length tells
 pub zero-room : (most : ℕ) → most ≤ 4096

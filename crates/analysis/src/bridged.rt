@@ -21,6 +21,9 @@ const FEW_SPANS: usize = 16;
 
 pub const FEW_PAIRS: usize = 64;
 
+// The functions of both rooms ask for few_pairs or max_pairs: so this one is few_pairs.
+const _: () = prove!(FEW_PAIRS < MAX_PAIRS);
+
 // Whether room for few region pairs is tried first. Nothing is promised: either answer is right.
 pub fn is_small(cells: usize, spans: usize) -> bool {
     (cells <= FEW_CELLS) & (spans <= FEW_SPANS)

@@ -1,5 +1,6 @@
 // The plan of a job's merges: its boundaries by rank, and the rank that each rank goes into.
 ghost use Rattle.std.specs.Prelude.{◌≡◌, List, ℕ, ◌≤◌, ◌<◌, ◌/◌, length, get_or};
+ghost use mathlib.Core.Logic.{◌⊎◌};
 ghost use Rattle.std.proofs.Math.Option.{none};
 ghost use Rattle.position.specs.declared.Span.{Span};
 ghost use Rattle.format.specs.Sizes.{span_size};
@@ -13,6 +14,7 @@ ghost use Rattle.serial_candidates.specs.Owners.{Stored};
 ghost use Rattle.checks.specs.Checks.{first_refusal};
 ghost use Rattle.checks_calls.specs.Refusals.{reduce_checks, by_list_checks};
 ghost use Rattle.results.specs.Results.{work_size, max_pairs, own_ends};
+ghost use Rattle.analysis.specs.Bridging.{few_pairs};
 ghost use Rattle.analysis.specs.Plans.{RankTables, plan_of, Leads, RankedBy, Headed, OwnEnds, RankedJob, Plannable, EndsBy, SomeEnds, PartitionTables};
 ghost use Rattle.analysis.specs.Plans.{SomeTold, TabledWithin, DrawnWithin, Drawn};
 
@@ -186,7 +188,7 @@ fn plan_within<const PAIRS: usize>(
     work: &mut [u8],
     plan: &mut [u32; 256],
 ) -> usize
-    requires few { PAIRS ≤ max_pairs }
+    requires room { (PAIRS ≡ few_pairs) ⊎ (PAIRS ≡ max_pairs) }
     requires given { Plannable job.now h order.now work.old × SpansFit h.counts.width h.counts.height ends.now h.counts.boundaries
         × SomeEnds job.now order.now ends.now × (length plan.old ≡ 256) × (limits.most_spans ≤ 16) × Leads directions }
     ensures drawn_within { (ss : List Span) → EndsBy job.now order.now ends.now ss

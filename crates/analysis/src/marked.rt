@@ -1,12 +1,13 @@
 // Partition, records and marks: the core of Mark.
-ghost use Rattle.std.specs.Prelude.{◌≤◌, length};
+ghost use Rattle.std.specs.Prelude.{◌≡◌, length};
+ghost use mathlib.Core.Logic.{◌⊎◌};
 ghost use Rattle.grid.specs.Cells.{map_of};
 ghost use Rattle.grid.specs.Directions.{directions_of};
 ghost use Rattle.areas.specs.Spans.{spans_in};
 ghost use Rattle.areas_assessments.specs.Recording.{Arrays};
 ghost use Rattle.areas_partition.specs.Partitioned.{Partitionable};
 ghost use Rattle.results.specs.Results.{max_pairs};
-ghost use Rattle.analysis.specs.Bridging.{MarkedWithin};
+ghost use Rattle.analysis.specs.Bridging.{few_pairs, MarkedWithin};
 
 use crate::bridged::{FEW_PAIRS, MAX_PAIRS, is_small};
 use areas_partition::partition_by_spans;
@@ -58,7 +59,7 @@ fn marks_within<const PAIRS: usize>(
     work: &mut [u8],
     marks: &mut [u8; 256],
 ) -> usize
-    requires few { PAIRS ≤ max_pairs }
+    requires room { (PAIRS ≡ few_pairs) ⊎ (PAIRS ≡ max_pairs) }
     requires parted { Partitionable width height cells.now directions ends.now count work.old }
     ensures { MarkedWithin PAIRS (directions_of directions) (map_of width height cells.now) (spans_in ends.now count)
         marks.new work.old work.new result }

@@ -1,11 +1,12 @@
 // The areas of a map parted by spans, and how many there are.
-ghost use Rattle.std.specs.Prelude.{◌≤◌};
+ghost use Rattle.std.specs.Prelude.{◌≡◌};
+ghost use mathlib.Core.Logic.{◌⊎◌};
 ghost use Rattle.grid.specs.Cells.{map_of};
 ghost use Rattle.grid.specs.Directions.{directions_of};
 ghost use Rattle.areas.specs.Spans.{spans_in};
 ghost use Rattle.areas_partition.specs.Partitioned.{Partitionable};
 ghost use Rattle.results.specs.Results.{max_pairs};
-ghost use Rattle.analysis.specs.Bridging.{AreasWithin};
+ghost use Rattle.analysis.specs.Bridging.{few_pairs, AreasWithin};
 
 use crate::bridged::{FEW_PAIRS, MAX_PAIRS, is_small};
 use areas_partition::{Partition, partition_by_spans};
@@ -20,7 +21,7 @@ fn areas_within<const PAIRS: usize>(
     count: usize,
     work: &mut [u8],
 ) -> Partition
-    requires few { PAIRS ≤ max_pairs }
+    requires room { (PAIRS ≡ few_pairs) ⊎ (PAIRS ≡ max_pairs) }
     requires parted { Partitionable width height cells.now directions ends.now count work.old }
     ensures { AreasWithin PAIRS (directions_of directions) (map_of width height cells.now) (spans_in ends.now count)
         work.old work.new result.areas result.pairs }

@@ -1,6 +1,6 @@
 // Bytes written as pieces: how many bytes a piece makes (two bytes), of how many it repeats (one
 // byte), and those.
-ghost use Rattle.std.specs.Prelude.{◌<◌, ◌≤◌, IfSome, length};
+ghost use Rattle.std.specs.Prelude.{◌<◌, ◌≤◌, IfOk, IfSome, length};
 
 use crate::compare::Fault;
 
@@ -17,6 +17,7 @@ struct Piece<'a> {
 fn first_piece(item: &[u8], room: usize) -> Option<Piece<'_>>
     ensures made { IfSome result (λ p. (0 < p.made) × (p.made ≤ room)) }
     ensures repeated { IfSome result (λ p. 0 < length p.repeated.now) }
+    ensures rest { IfSome result (λ p. length p.rest.now ≤ length item.now) }
 {
     let [low, high, count, rest @ ..] = item else {
         return None;
@@ -45,7 +46,9 @@ fn repeat(few: &[u8], bytes: &mut [u8])
 
 // Fills bytes with the pieces at the start of an item, and gives what stands behind them; an error
 // where they make too few bytes or too many.
-pub fn expand<'a>(item: &'a [u8], bytes: &mut [u8]) -> Result<&'a [u8], Fault> {
+pub fn expand<'a>(item: &'a [u8], bytes: &mut [u8]) -> Result<&'a [u8], Fault>
+    ensures { IfOk result (λ rest. length rest.now ≤ length item.now) }
+{
     let mut rest = item;
     let mut done = 0;
     // While, not for: each piece makes as many bytes as it says.

@@ -1,5 +1,6 @@
 // What was called, and what is printed of it.
-ghost use Rattle.std.specs.Prelude.{◌≡◌, ◌+◌, ◌<◌};
+ghost use Rattle.std.specs.Prelude.{◌≡◌, ◌+◌, ◌*◌, ◌<◌};
+ghost use Rattle.replay.specs.Kinds.{call_byte};
 
 use crate::calls::{Call, NUMBERS};
 use std::io;
@@ -14,7 +15,7 @@ pub struct Counts {
 // The place of a call's count.
 fn place(call: Call, number: u32) -> usize
     requires { number < 33 }
-    ensures { result < 132 }
+    ensures { (result ≡ call_byte call * 33 + number) × (result < 132) }
 {
     call as usize * NUMBERS as usize + number as usize
 }

@@ -1,3 +1,5 @@
+use mathlib.Core.Path.{refl}
+use mathlib.Core.Logic.{inr}
 use native.Mathlib.Omega.{arith}
 use Rattle.analysis.proofs.Headed.{headed-cells}
 use Rattle.analysis.proofs.Within.{parted-wider, parted-again}
@@ -15,7 +17,7 @@ pub plan_within-requires-2 : goal.plan_within-requires-2
 plan_within-requires-2 c =
     let p = c.requires in
     record {
-      few = omega arith;
+      room = inr refl;
       given = (
         record { job = p.0.job; room = omega (arith, p.0.room, c.plan_within-pairs.auto.work) },
         p.1,
