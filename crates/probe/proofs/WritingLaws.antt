@@ -2,10 +2,12 @@
 use mathlib.Core.Path.{◌≡◌, refl, sym, ◌∙◌, ap}
 use mathlib.Core.List.{List, [], ◌∷◌, ◌++◌, flat_map, append-nil, append_assoc}
 use Prim.Native.Nat.{ℕ, zero, suc, ◌+◌, ◌*◌, ◌≤◌, ◌<◌}
-use native.Mathlib.Nat.{mul-suc}
+use native.Mathlib.Nat.{mul-suc, zero-add}
 use native.Mathlib.Numerals.{add-one}
 use native.Mathlib.Omega.{arith}
-use lib.ListN.{length, get_or, length-append}
+use borrow.Author.Tests.{le-ltb}
+use lib.ListN.{length, get_or, set, take, drop, length-append, length-set}
+use lib.Seq.{paste-suc, take_all}
 use Rattle.lists.specs.Rows.{rows}
 use Rattle.lists.proofs.Rows.{rows_last}
 use Rattle.lists.proofs.Flat.{flat_map-append}
@@ -13,6 +15,7 @@ use Rattle.wire.specs.Bytes.{u32_bytes, words, splice}
 use Rattle.wire.proofs.Numbers.{length-bytes}
 use Rattle.wire.proofs.Parts.{length-splice, splice-none, splice-splice}
 use Rattle.analysis.proofs.Ranked.{by_rows}
+use Rattle.probe.specs.Probe.{put_first}
 use Rattle.probe.specs.Writing.{blocks}
 
 -- a write beside a write of n bytes
@@ -137,3 +140,25 @@ pub filled-words : (ws : List ℕ) {s e : List ℕ} {k : ℕ} → Filled 4 (λ j
     → k ≡ length ws
     → e ≡ splice s 0 (words ws)
 filled-words ws {s} a e = a.is ∙ (ap (λ (n : ℕ). splice s 0 (blocks n (λ j. u32_bytes (get_or ws j 0)))) e ∙ ap (splice s 0) (blocks-words ws))
+
+-- the first k elements of xs are put at the start of d
+pub record Started (d xs e : List ℕ) (k : ℕ) : Type 0 where
+  pub below : k ≤ length xs
+  pub begun : e ≡ take k xs ++ drop k d
+  pub same : length e ≡ length d
+
+pub started-next : {d xs e : List ℕ} {k : ℕ} → Started d xs e k → k < length xs → length xs ≤ length d → Started d xs (set e k (get_or xs k 0)) (k + 1)
+started-next {d} {xs} {e} {k} a h l =
+    let fits : 0 + k < length d = omega arith in
+    let step : set (take k xs ++ drop k d) k (get_or xs k 0) ≡ take (suc k) xs ++ drop (suc k) d = simp zero-add at (paste-suc d 0 xs k 0 fits h) in
+    record {
+      below = omega arith;
+      begun = ap (λ (t : List ℕ). set t k (get_or xs k 0)) a.begun ∙ rw add-one step;
+      same = length-set e k (get_or xs k 0) ∙ a.same;
+    }
+
+pub started-end : {d xs e : List ℕ} {k : ℕ} → Started d xs e k → length xs ≤ k → length xs ≤ length d → e ≡ put_first d xs
+unfolding put_first
+started-end {d} {xs} {e} {k} a h l =
+    let z : k ≡ length xs = omega (arith, a.below) in
+    a.begun ∙ ap (λ (j : ℕ). take j xs ++ drop j d) z ∙ rw (take_all (length xs) xs (omega arith), le-ltb _ _ l)

@@ -45,7 +45,8 @@ impl From<Fault> for ChokesResult {
 fn fits(owner: usize, left: usize, right: usize, regions: usize) -> bool
     ensures { result ≡ fitting owner left right regions }
 {
-    owner < 256 && 0 < left && left <= regions && 0 < right && right <= regions
+    // `&`, not `&&`: a record costs no branch but the one at its end.
+    (owner < 256) & (0 < left) & (left <= regions) & (0 < right) & (right <= regions)
 }
 
 fn record_fits(records: &[u8], k: usize, regions: usize) -> bool
@@ -82,27 +83,21 @@ pub struct Records {
     pub rights: [u32; 4096],
 }
 
-// Reads n records.
-fn load(records: &[u8], n: usize) -> Records
-    requires { (n ≤ 4096) × (12 * n ≤ length records.now) }
-    ensures { Loaded records.now n result.owners result.lefts result.rights }
-{
-    let mut owners = [0u32; 4096];
-    let mut lefts = [0u32; 4096];
-    let mut rights = [0u32; 4096];
-    for k in 0..n {
-        let at = 12 * k;
-        let owner = read_u32(records, at);
-        let left = read_u32(records, at + 4);
-        let right = read_u32(records, at + 8);
-        owners[k] = owner;
-        lefts[k] = left;
-        rights[k] = right;
-    }
-    Records {
-        owners,
-        lefts,
-        rights,
+impl Records {
+    // Reads n records to the start of the arrays, which stand where they are lent: a value of this size is not handed out.
+    fn load(&mut self, records: &[u8], n: usize)
+        requires { (n ≤ 4096) × (12 * n ≤ length records.now) }
+        ensures { Loaded records.now n self.new.owners self.new.lefts self.new.rights }
+    {
+        for k in 0..n {
+            let at = 12 * k;
+            let owner = read_u32(records, at);
+            let left = read_u32(records, at + 4);
+            let right = read_u32(records, at + 8);
+            self.owners[k] = owner;
+            self.lefts[k] = left;
+            self.rights[k] = right;
+        }
     }
 }
 
@@ -151,7 +146,12 @@ fn bridge_records(records: &[u8], count: usize, regions: usize, work: &mut [u8],
     ensures work { work.new ≡ splice work.old 0 (replicate (4 * regions) 0) }
     ensures marks { marks.new ≡ bridge_marks (records_at records.now count) 256 ++ drop 256 marks.old }
 {
-    let loaded = load(records, count);
+    let mut loaded = Records {
+        owners: [0; 4096],
+        lefts: [0; 4096],
+        rights: [0; 4096],
+    };
+    loaded.load(records, count);
     zero_fill(work, 0, 4 * regions);
     let mut found = [0u8; 256];
     bridge_boundary_indices(
@@ -174,7 +174,12 @@ fn mark_records(records: &[u8], count: usize, regions: usize, work: &mut [u8], m
     ensures work { work.new ≡ splice work.old 0 (replicate (4 * regions) 0) }
     ensures marks { marks.new ≡ choke_marks (records_at records.now count) 256 ++ drop 256 marks.old }
 {
-    let loaded = load(records, count);
+    let mut loaded = Records {
+        owners: [0; 4096],
+        lefts: [0; 4096],
+        rights: [0; 4096],
+    };
+    loaded.load(records, count);
     zero_fill(work, 0, 4 * regions);
     let mut found = [0u8; 256];
     mark_boundaries(

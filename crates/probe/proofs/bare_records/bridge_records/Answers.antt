@@ -8,7 +8,7 @@ bridge_boundary_indices-requires c =
     let w = c.args.work.now in
     let regions = c.args.regions in
     let p = c.requires in
-    let l = c.load-loaded.ensures in
+    let l = c.load.ensures in
     let z = c.zero_fill.ensures in (
       loaded-owners regions l p.2,
       omega (arith, l.owners-are, p.0),
@@ -21,4 +21,4 @@ pub returns-clause-marks : goal.returns-clause-marks
 returns-clause-marks c =
     let a = c.args in
     let b = c.bridge_boundary_indices.ensures in
-    marks-end bridge_marks bridges-long a.marks.now c.load-loaded.ensures b.marks c.requires.4 c.copy.ensures.1
+    marks-end bridge_marks bridges-long a.marks.now c.load.ensures b.marks c.requires.4 c.copy.ensures.1

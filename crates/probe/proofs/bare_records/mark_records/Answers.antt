@@ -8,7 +8,7 @@ mark_boundaries-requires c =
     let w = c.args.work.now in
     let regions = c.args.regions in
     let p = c.requires in
-    let l = c.load-loaded.ensures in
+    let l = c.load.ensures in
     let z = c.zero_fill.ensures in
     record {
       marked = loaded-owners regions l p.2;
@@ -23,4 +23,4 @@ pub returns-clause-marks : goal.returns-clause-marks
 returns-clause-marks c =
     let a = c.args in
     let b = c.mark_boundaries.ensures in
-    marks-end choke_marks chokes-long a.marks.now c.load-loaded.ensures b.marks c.requires.4 c.copy.ensures.1
+    marks-end choke_marks chokes-long a.marks.now c.load.ensures b.marks c.requires.4 c.copy.ensures.1

@@ -1,5 +1,0 @@
-use Rattle.probe.specs.Records.{Loaded}
-use Rattle.probe.proofs.bare_records.load.Given as goal
-
-abbrev pub invariant-loop-k : goal.invariant-loop-k
-invariant-loop-k l = Loaded l.records l.k l.owners l.lefts l.rights
