@@ -171,3 +171,7 @@ module _ (owners : List ℕ) (from to b : ℕ) (h : from ≤ to) (room : to ≤ 
 pub byte-is-bit : (t : Bool) → bool_byte t ≡ bit t
 byte-is-bit true = refl
 byte-is-bit false = refl
+
+-- a mark, by the test that it is made of
+pub marked-bit : {v : ℕ} {t s : Bool} → v ≡ bool_byte t → t ≡ s → v ≡ bit s
+marked-bit {s = s} told e = told ∙ (ap bool_byte e ∙ byte-is-bit s)

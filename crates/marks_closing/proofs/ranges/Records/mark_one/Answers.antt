@@ -1,5 +1,7 @@
-use Rattle.marks_closing.proofs.Runs.{byte-is-bit}
+use mathlib.Core.Path.{ap}
+use lib.ListN.{set}
+use Rattle.marks_closing.proofs.Runs.{marked-bit}
 use Rattle.marks_closing.proofs.ranges.Records.mark_one.Goals as goal
 
 pub returns : goal.returns
-returns c = λ es f. cc (byte-is-bit c.parted.result, c.parted.ensures es f)
+returns c = λ es f. ap (set c.args.marks.now c.args.b) (marked-bit c.from.ensures (c.parted.ensures es f))
