@@ -1,5 +1,6 @@
 pub mod Finds
 pub mod Hangs
+pub mod Slices
 pub mod Undoes
 pub mod Grows
 pub mod Runs

@@ -2,7 +2,7 @@
 ghost use Rattle.std.specs.Prelude.{◌≡◌, ◌+◌, ◌-◌, ◌<◌, length, set};
 ghost use Rattle.lists.specs.Rows.{at};
 ghost use Rattle.marks_closing.specs.Forest.{HeightTrees, Root};
-ghost use Rattle.marks_closing.specs.Tables.{tables};
+ghost use Rattle.marks_closing.specs.Tables.{tables, SameSlices};
 ghost use Rattle.marks_closing.specs.Log.{forest_tables, raised_height, hung, undone, LogRoom, Undoable, GrownForest, joining};
 
 // The tables of the trees, and the log: for each join the root that went under another, and the height that the other had.
@@ -46,7 +46,8 @@ impl Forest<'_> {
     // Puts the root `low` under the root `high`, as join n of the log.
     fn hang(&mut self, n: usize, low: u32, high: u32)
         requires { LogRoom (tables self.old) n 1 × (low < length self.old.parents.now) × (high < length self.old.parents.now) }
-        ensures { tables self.new ≡ hung (tables self.old) n low high }
+        ensures same_slices { SameSlices self.old self.new }
+        ensures hung { tables self.new ≡ hung (tables self.old) n low high }
     {
         let lower = self.heights[low as usize];
         let height = self.heights[high as usize];
@@ -59,7 +60,8 @@ impl Forest<'_> {
     // Makes the trees of two regions one. How long the log is then.
     pub(crate) fn join(&mut self, n: usize, left: u32, right: u32) -> usize
         requires { LogRoom (tables self.old) n 1 × (left < length self.old.parents.now) × (right < length self.old.parents.now) }
-        ensures { GrownForest (joining left right) 1 (tables self.old) n (tables self.new) result }
+        ensures same_slices { SameSlices self.old self.new }
+        ensures grown { GrownForest (joining left right) 1 (tables self.old) n (tables self.new) result }
     {
         let a = self.find(left);
         let b = self.find(right);
@@ -77,7 +79,8 @@ impl Forest<'_> {
     // Takes one join back: `low` is a root again, and what was its parent has its height of before.
     fn part_again(&mut self, low: u32, height: u32)
         requires { (low < length self.old.parents.now) × (at self.old.parents.now low < length self.old.heights.now) }
-        ensures { tables self.new ≡ forest_tables (set self.old.parents.now low low) (set self.old.heights.now (at self.old.parents.now low) height)
+        ensures same_slices { SameSlices self.old self.new }
+        ensures taken_back { tables self.new ≡ forest_tables (set self.old.parents.now low low) (set self.old.heights.now (at self.old.parents.now low) height)
             self.old.joined.now self.old.earlier.now }
     {
         let high = self.parent(low);
@@ -85,15 +88,22 @@ impl Forest<'_> {
         self.parents[low as usize] = low;
     }
 
-    // Takes joins back, last first, until n are left of m.
+    // Takes joins back, last first, until n are left of m. The loop has the fields in a local forest, and so in registers; behind `self` each
+    // would be read anew after every write.
     pub(crate) fn undo(&mut self, n: usize, m: usize)
         requires { Undoable (tables self.old) n m }
         ensures { tables self.new ≡ undone (tables self.old) n (m - n) }
     {
+        let mut lent = Forest {
+            parents: &mut *self.parents,
+            heights: &mut *self.heights,
+            joined: &mut *self.joined,
+            earlier: &mut *self.earlier,
+        };
         for k in (n..m).rev() {
-            let low = self.joined[k];
-            let height = self.earlier[k];
-            self.part_again(low, height);
+            let low = lent.joined[k];
+            let height = lent.earlier[k];
+            lent.part_again(low, height);
         }
     }
 }

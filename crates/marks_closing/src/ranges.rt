@@ -21,15 +21,23 @@ pub(crate) struct Records<'a> {
 }
 
 impl Records<'_> {
-    // Joins the ends of the records from `from` up to `to`. How long the log is then.
+    // Joins the ends of the records from `from` up to `to`. How long the log is then. The fields are in locals, as in `undo`.
     fn join_records(&self, from: usize, to: usize, forest: &mut Forest, n: usize) -> usize
         requires { (from ≤ to) × Graph to (length forest.old.parents.now) self.now.lefts.now self.now.rights.now
             × LogRoom (tables forest.old) n (to - from) }
         ensures { GrownForest (adding self.now.lefts.now self.now.rights.now from (to - from)) (to - from) (tables forest.old) n (tables forest.new) result }
     {
+        let lefts = self.lefts;
+        let rights = self.rights;
+        let mut lent = Forest {
+            parents: &mut *forest.parents,
+            heights: &mut *forest.heights,
+            joined: &mut *forest.joined,
+            earlier: &mut *forest.earlier,
+        };
         let mut m = n;
         for k in from..to {
-            m = forest.join(m, self.lefts[k], self.rights[k]);
+            m = lent.join(m, lefts[k], rights[k]);
         }
         m
     }

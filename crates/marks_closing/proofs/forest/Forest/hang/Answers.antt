@@ -5,5 +5,5 @@ pub raised_over-requires : goal.raised_over-requires
 raised_over-requires c =
     omega (arith, c.requires.0.low c.args.high c.requires.2, c.requires.0.few)
 
-pub returns : goal.returns
-returns c = rw c.raised_over.ensures
+pub returns-clause-hung : goal.returns-clause-hung
+returns-clause-hung c = rw c.raised_over.ensures

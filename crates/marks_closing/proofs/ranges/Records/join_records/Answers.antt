@@ -1,18 +1,22 @@
+use mathlib.Core.Path.{◌≡◌}
 use Prim.Native.Nat.{◌-◌}
 use native.Mathlib.Omega.{arith}
+use Rattle.std.proofs.Common.{rules}
 use Rattle.marks_closing.proofs.Runs.{adding-start, adding-next, adding-end, adding-room}
+use Rattle.marks_closing.proofs.Slices.{same-start, same-next}
 use Rattle.marks_closing.proofs.ranges.Records.join_records.Goals as goal
 
 pub loop-k-init : goal.loop-k-init
 loop-k-init c =
-    (omega arith, omega arith, adding-start c.args.self.now.lefts.now c.args.self.now.rights.now c.args.from c.requires.2)
+    let r = c.args.self.now in
+    (omega arith, omega arith, adding-start r.lefts.now r.rights.now c.args.from c.requires.2, same-start)
 
-pub bounds-self-k : goal.bounds-self-k
-bounds-self-k c =
+pub bounds-lefts-k : goal.bounds-lefts-k
+bounds-lefts-k c =
     omega (arith, c.requires.1.lefts-are)
 
-pub bounds-self-k-in-loop-k : goal.bounds-self-k-in-loop-k
-bounds-self-k-in-loop-k c =
+pub bounds-rights-k : goal.bounds-rights-k
+bounds-rights-k c =
     omega (arith, c.requires.1.rights-are)
 
 pub join-m-requires : goal.join-m-requires
@@ -31,10 +35,13 @@ loop-k-preserved c =
     let inv = c.loop-k.invariant in (
       omega (arith, inv.0),
       omega (arith, c.loop-k-test.true),
-      adding-next a.self.now.lefts.now a.self.now.rights.now a.from inv.0 inv.2 c.join-m.ensures,
+      adding-next a.self.now.lefts.now a.self.now.rights.now a.from inv.0 inv.2 c.join-m.ensures.grown,
+      same-next inv.3 c.join-m.ensures.same_slices,
     )
 
+-- what the local forest leaves is what this one has
 pub returns : goal.returns
 returns c =
-    let a = c.args in
-    adding-end a.self.now.lefts.now a.self.now.rights.now a.from (omega arith) c.loop-k.invariant.2
+    let r = c.args.self.now in
+    let all : c.loop-k.k ≡ c.args.to = omega arith in
+    search (rules, adding-end r.lefts.now r.rights.now c.args.from all c.loop-k.invariant.2)

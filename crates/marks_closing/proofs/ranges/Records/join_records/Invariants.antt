@@ -1,5 +1,5 @@
 use Prim.Native.Nat.{◌-◌, ◌≤◌}
-use Rattle.marks_closing.specs.Tables.{tables}
+use Rattle.marks_closing.specs.Tables.{tables, SameSlices}
 use Rattle.marks_closing.specs.Log.{GrownForest, adding}
 use Rattle.marks_closing.proofs.ranges.Records.join_records.Given as goal
 
@@ -7,5 +7,5 @@ use Rattle.marks_closing.proofs.ranges.Records.join_records.Given as goal
 abbrev pub invariant-loop-k : goal.invariant-loop-k
 invariant-loop-k l =
     (l.from ≤ l.k) × (l.k ≤ l.to)
-    × GrownForest (adding l.self.lefts.now l.self.rights.now l.from (l.k - l.from)) (l.k - l.from) (tables l.initial.forest) l.n
-    (tables l.forest) l.m
+    × GrownForest (adding l.self.lefts.now l.self.rights.now l.from (l.k - l.from)) (l.k - l.from) (tables l.initial.lent) l.n
+    (tables l.lent) l.m × SameSlices l.initial.lent l.lent
